@@ -1,0 +1,1 @@
+// The interfaces of broadcast and consensus, and what the supplied parts share.
