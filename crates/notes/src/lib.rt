@@ -1,3 +1,4 @@
 pub mod kind;
+pub mod label;
 pub mod set;
 pub mod wear;
