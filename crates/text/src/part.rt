@@ -18,7 +18,10 @@ impl<'a> Part<'a> {
     pub fn whole(file: &'a [u8]) -> Part<'a>
         ensures { λ r. ⌜ partOf r ≡ wholeOf (now (file .entry)) ⌝ }
     {
-        Part { bytes: file, end: file.len() }
+        Part {
+            bytes: file,
+            end: file.len(),
+        }
     }
 
     pub fn bytes(self) -> &'a [u8]
@@ -47,9 +50,18 @@ impl<'a> Part<'a> {
     {
         let n = up_to(self.bytes, stop);
         let (front, back) = self.bytes.split_at(n);
-        let first = Part { bytes: front, end: self.end.saturating_sub(back.len()) };
+        let first = Part {
+            bytes: front,
+            end: self.end.saturating_sub(back.len()),
+        };
         match back.split_first() {
-            Some((_, rest)) => (first, Some(Part { bytes: rest, end: self.end })),
+            Some((_, rest)) => (
+                first,
+                Some(Part {
+                    bytes: rest,
+                    end: self.end,
+                }),
+            ),
             None => (first, None),
         }
     }

@@ -10,7 +10,7 @@ use Rattle.text.proofs.number.digits.Needs.{then-byte-lt48·by·then-byte-lt48
 pub returns-then-byte-lt48 : need.returns-then-byte-lt48
 returns-then-byte-lt48 c =
     let o : (getD (c .args .text .now) (c .loop-byte .byte-index) 0 < 48) ⊎ (57 < getD (c .args .text .now) (c .loop-byte .byte-index) 0)
-          = elim (c .then-byte-lt48 .came) [ then-byte-lt48·by·then-byte-lt48 w ↦ inl (w .if-byte-lt48 .taken) | then-byte-lt48·by·else-byte-lt48·then-byte-gt57 w ↦ inr (w .if-byte-gt57 .taken) ] in
+    = elim (c .then-byte-lt48 .came) [ then-byte-lt48·by·then-byte-lt48 w ↦ inl (w .if-byte-lt48 .taken) | then-byte-lt48·by·else-byte-lt48·then-byte-gt57 w ↦ inr (w .if-byte-gt57 .taken) ] in
     no-digit _ _ _ (c .loop-byte .inv .0) (c .loop-byte-test .taken) o
 
 pub returns-then-longer-from : need.returns-then-longer-from
