@@ -1,0 +1,3 @@
+// Reading a schedule file.
+pub mod event;
+pub mod line;
