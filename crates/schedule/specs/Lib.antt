@@ -1,4 +1,6 @@
 pub mod Chains
 pub mod Lines
 pub mod Events
+pub mod Notes
+pub mod Contents
 pub mod Faults

@@ -31,3 +31,7 @@ linesAfter rule sofar (suc k) p = andThen (lineBy rule p) (λ q. linesAfter rule
 -- so many lines, and what follows them
 abbrev pub linesOf : {A : Type 0} → (Span → Option A) → ℕ → Span → Result (List A × Span) LineFault
 linesOf rule count p = linesAfter rule [] count p
+
+-- a value that stands for itself
+abbrev pub sameValue : {A : Type 0} → A → A
+sameValue x = x

@@ -1,4 +1,4 @@
-// Schedule files: what they hold, what may be wrong with them, and reading them.
+// Schedules: what their files hold, what may be wrong with one, and what each line says.
 pub mod contents;
 pub mod event;
 pub mod fault;

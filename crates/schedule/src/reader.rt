@@ -1,3 +1,5 @@
-// Reading a schedule file.
+// Reading lines.
+pub mod contents;
 pub mod event;
 pub mod line;
+pub mod note;

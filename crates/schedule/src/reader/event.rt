@@ -67,9 +67,15 @@ fn event(letter: char, operands: Operands) -> Option<Event>
             let (card, note) = numbers(operands)?;
             Some(Event::Post { card, note })
         }
-        'p' => Some(Event::Propose { card: number(operands)? }),
-        't' => Some(Event::Take { card: number(operands)? }),
-        'x' => Some(Event::Crash { card: number(operands)? }),
+        'p' => Some(Event::Propose {
+            card: number(operands)?,
+        }),
+        't' => Some(Event::Take {
+            card: number(operands)?,
+        }),
+        'x' => Some(Event::Crash {
+            card: number(operands)?,
+        }),
         's' => {
             let (by, card) = numbers(operands)?;
             Some(Event::Suspect { by, card })
@@ -82,7 +88,9 @@ fn event(letter: char, operands: Operands) -> Option<Event>
             let (wire, item) = wire_item(operands)?;
             Some(Event::Lose { wire, item })
         }
-        'r' => Some(Event::Settle { limit: number(operands)? }),
+        'r' => Some(Event::Settle {
+            limit: number(operands)?,
+        }),
         _ => None,
     }
 }
