@@ -21,8 +21,8 @@ module _ {A : Type 0} (rule : Span → Option A) where
   pub skip-ends : (sofar : List A) (k : ℕ) (p : Span) → endOf (linesAfter rule sofar k p) ≡ skipLines k p
   skip-ends sofar zero p = refl
   skip-ends sofar (suc k) p =
-    elim (lineBy rule p) as (λ r. endOf (andThen r (λ q. linesAfter rule (sofar ++ (q .0 ∷ [])) k (q .1))) ≡ andThen r (λ q. skipLines k (q .1)))
-    [ Ok q ↦ skip-ends (sofar ++ (q .0 ∷ [])) k (q .1) | Err e ↦ refl ]
+      elim (lineBy rule p) as (λ r. endOf (andThen r (λ q. linesAfter rule (sofar ++ (q .0 ∷ [])) k (q .1))) ≡ andThen r (λ q. skipLines k (q .1)))
+      [ Ok q ↦ skip-ends (sofar ++ (q .0 ∷ [])) k (q .1) | Err e ↦ refl ]
 
   module _ (n i : ℕ) (p : Span) (h : i < n) where
     step : (sofar : List A) → linesAfter rule sofar (n - i) p ≡ andThen (lineBy rule p) (λ q. linesAfter rule (sofar ++ (q .0 ∷ [])) (n - (i + 1)) (q .1))
@@ -32,13 +32,13 @@ module _ {A : Type 0} (rule : Span → Option A) where
     skip-step = let e : n - i ≡ suc (n - (i + 1)) = omega arith in ap (λ k. skipLines k p) e
 
     pub line-more : (s : Result (List A × Span) LineFault) (sofar after : List A) (x : A) (q : Span)
-      → s ≡ linesAfter rule sofar (n - i) p → Ok (x, q) ≡ lineBy rule p → after ≡ sofar ++ (x ∷ []) → s ≡ linesAfter rule after (n - (i + 1)) q
+        → s ≡ linesAfter rule sofar (n - i) p → Ok (x, q) ≡ lineBy rule p → after ≡ sofar ++ (x ∷ []) → s ≡ linesAfter rule after (n - (i + 1)) q
     line-more s sofar after x q e l a =
-      e ∙ step sofar ∙ ap (λ r. andThen r (λ q. linesAfter rule (sofar ++ (q .0 ∷ [])) (n - (i + 1)) (q .1))) (sym l)
-      ∙ ap (λ xs. linesAfter rule xs (n - (i + 1)) q) (sym a)
+        e ∙ step sofar ∙ ap (λ r. andThen r (λ q. linesAfter rule (sofar ++ (q .0 ∷ [])) (n - (i + 1)) (q .1))) (sym l)
+        ∙ ap (λ xs. linesAfter rule xs (n - (i + 1)) q) (sym a)
 
     pub line-wrong : (s : Result (List A × Span) LineFault) (sofar : List A) (f : LineFault)
-      → s ≡ linesAfter rule sofar (n - i) p → Err f ≡ lineBy rule p → s ≡ Err f
+        → s ≡ linesAfter rule sofar (n - i) p → Err f ≡ lineBy rule p → s ≡ Err f
     line-wrong s sofar f e l = e ∙ step sofar ∙ ap (λ r. andThen r (λ q. linesAfter rule (sofar ++ (q .0 ∷ [])) (n - (i + 1)) (q .1))) (sym l)
 
     pub skip-more : (s : Result Span LineFault) (x : A) (q : Span) → s ≡ skipLines (n - i) p → Ok (x, q) ≡ lineBy rule p → s ≡ skipLines (n - (i + 1)) q

@@ -1,1 +1,2 @@
 pub mod Sections
+pub mod Files

@@ -12,7 +12,10 @@ use text::fault::LineFault;
 use text::part::Part;
 
 // What follows so many lines, if each says what it should. It keeps nothing of what they say.
-pub fn check_lines<'a, T: OneLine<'a> + Drop>(rest: Part<'a>, count: u32) -> Result<Part<'a>, LineFault>
+pub fn check_lines<'a, T: OneLine<'a> + Drop>(
+    rest: Part<'a>,
+    count: u32,
+) -> Result<Part<'a>, LineFault>
     ensures { λ r. ⌜ endSeen r ≡ endOf (linesOf rule count (partOf (rest .entry))) ⌝ }
 {
     let mut left = rest;
@@ -26,7 +29,11 @@ pub fn check_lines<'a, T: OneLine<'a> + Drop>(rest: Part<'a>, count: u32) -> Res
 }
 
 // What so many lines say, put into a list that has room for it, and what follows them.
-pub(crate) fn read_lines<'a, T: OneLine<'a> + Drop>(room: Vec<T>, rest: Part<'a>, count: u32) -> Result<(Vec<T>, Part<'a>), LineFault>
+pub(crate) fn read_lines<'a, T: OneLine<'a> + Drop>(
+    room: Vec<T>,
+    rest: Part<'a>,
+    count: u32,
+) -> Result<(Vec<T>, Part<'a>), LineFault>
     requires { ⌜ vec-items room ≡ [] ⌝ }
     requires { ⌜ vec-len room + count ≤ vec-cap room ⌝ }
     ensures { λ r. ⌜ itemsSeen said r ≡ linesOf rule count (partOf (rest .entry)) ⌝ }

@@ -20,10 +20,10 @@ push-reserved-requires g c κs = omega arith
 
 pub loop-i-again : need.loop-i-again
 loop-i-again g c = (
-    line-more (g .T·OneLine .rule) (c .args .count) (c .loop-i .-i) _ (c .loop-i-test .taken) _ _ _ _ _ (c .loop-i .inv .0) (c .in-Ok .ensures tt)
-    (ap (map (g .T·OneLine .said)) (c .push-reserved .ensures .items) ∙ map-push (g .T·OneLine .said) _ _),
-    omega arith,
-  )
+  line-more (g .T·OneLine .rule) (c .args .count) (c .loop-i .-i) _ (c .loop-i-test .taken) _ _ _ _ _ (c .loop-i .inv .0) (c .in-Ok .ensures tt)
+      (ap (map (g .T·OneLine .said)) (c .push-reserved .ensures .items) ∙ map-push (g .T·OneLine .said) _ _),
+  omega arith,
+)
 
 pub returns-in-Err : need.returns-in-Err
 returns-in-Err g c = sym (line-wrong (g .T·OneLine .rule) (c .args .count) (c .loop-i .-i) _ (c .loop-i-test .taken) _ _ _ (c .loop-i .inv .0) (c .in-Err .ensures tt))
