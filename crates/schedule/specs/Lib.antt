@@ -4,3 +4,4 @@ pub mod Events
 pub mod Notes
 pub mod Contents
 pub mod Faults
+pub mod Written

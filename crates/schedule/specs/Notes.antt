@@ -15,7 +15,7 @@ wearFrom = ofTwo (λ a b. bind (numberIn 4294967295 a) (λ m. bind (numberIn 429
 abbrev pub wearOf : Span → Option Wear
 wearOf line = bind (cutFields 4 line) wearFrom
 
-abbrev labelIn : Cut → Option (List ℕ × ℕ)
+abbrev pub labelIn : Cut → Option (List ℕ × ℕ)
 labelIn (number n) = None
 labelIn (word bs place) = None
 labelIn (label bs place) = Some (bs, place)

@@ -35,7 +35,7 @@ fieldsOf (Three a b c) = Some (fieldOf a ∷ fieldOf b ∷ fieldOf c ∷ [])
 fieldsOf (Four a b c d) = Some (fieldOf a ∷ fieldOf b ∷ fieldOf c ∷ fieldOf d ∷ [])
 fieldsOf More = None
 
-abbrev numberOr : Span → Option ℕ → Cut
+abbrev pub numberOr : Span → Option ℕ → Cut
 numberOr p None = word (p .0) (placeOf p)
 numberOr p (Some n) = number n
 
@@ -46,7 +46,7 @@ readField p = numberOr p (numeral (p .0))
 abbrev pub readLabel : Span → Option Cut
 readLabel p = cond (isLabel (p .0)) (Some (label (p .0) (placeOf p))) None
 
-abbrev fieldsAfter : Cut → (Span → Option (List Cut)) → Option Span → Option (List Cut)
+abbrev pub fieldsAfter : Cut → (Span → Option (List Cut)) → Option Span → Option (List Cut)
 fieldsAfter f more None = Some (f ∷ [])
 fieldsAfter f more (Some rest) = mapped (λ fs. f ∷ fs) (more rest)
 
@@ -61,7 +61,7 @@ numberIn most (number n) = cond (leb n most) (Some n) None
 numberIn most (word w place) = None
 numberIn most (label w place) = None
 
-abbrev onlyByte : List ℕ → Option ℕ
+abbrev pub onlyByte : List ℕ → Option ℕ
 onlyByte [] = None
 onlyByte (b ∷ []) = Some b
 onlyByte (b ∷ c ∷ cs) = None

@@ -51,10 +51,14 @@ abbrev pub bothOf : {E : Type 0} → Result (Part × Part) E → Result (Span ×
 bothOf (Ok p) = Ok (partOf (p .0), partOf (p .1))
 bothOf (Err e) = Err e
 
-abbrev ended : Span → Option Span → Result (Span × Span) LineFault
-ended p None = Err (Wrong (placeOf p))
+-- The fault of a line that is due at a part: absent where no byte is left.
+abbrev pub faultAt : Span → LineFault
+faultAt p = cond (eqb (length (p .0)) 0) (Absent (placeOf p)) (Wrong (placeOf p))
+
+abbrev pub ended : Span → Option Span → Result (Span × Span) LineFault
+ended p None = Err (faultAt p)
 ended p (Some rest) = Ok (before 10 p, rest)
 
 -- The first line, without the byte 10 that ends it, and what follows.
 abbrev pub lineOf : Span → Result (Span × Span) LineFault
-lineOf p = cond (eqb (length (p .0)) 0) (Err (Absent (placeOf p))) (ended p (after 10 p))
+lineOf p = ended p (after 10 p)

@@ -71,12 +71,13 @@ impl<'a> Part<'a> {
         ensures { λ r. ⌜ bothOf r ≡ lineOf (partOf (self .entry)) ⌝ }
     {
         let place = self.place();
-        if self.is_empty() {
-            return Err(LineFault::Absent { place });
-        }
         match self.cut(b'\n') {
             (line, Some(rest)) => Ok((line, rest)),
-            (_, None) => Err(LineFault::Wrong { place }),
+            (_, None) => Err(if self.is_empty() {
+                LineFault::Absent { place }
+            } else {
+                LineFault::Wrong { place }
+            }),
         }
     }
 }
