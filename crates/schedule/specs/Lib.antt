@@ -5,3 +5,4 @@ pub mod Notes
 pub mod Contents
 pub mod Faults
 pub mod Written
+pub mod Says

@@ -11,7 +11,7 @@ use Rattle.text.specs.declared.fault.LineFault.the-variants.{Wrong}
 use Rattle.text.specs.declared.part.Part.{Part}
 use Rattle.schedule.specs.Chains.{andThen}
 
-abbrev orWrong : {A : Type 0} → ℕ → Span → Option A → Result (A × Span) LineFault
+abbrev pub orWrong : {A : Type 0} → ℕ → Span → Option A → Result (A × Span) LineFault
 orWrong place rest None = Err (Wrong place)
 orWrong place rest (Some x) = Ok (x, rest)
 

@@ -138,3 +138,14 @@ contentsLines c =
 -- 1 to 6 cards, up to 32 notes, up to 4096 events
 abbrev pub ContentsAllowed : Contents → Type 0
 ContentsAllowed c = Between 1 6 (c .cards) × Between 0 32 (c .notes) × Between 0 4096 (c .events)
+
+-- lines, each with the byte 10 that ends it
+abbrev pub writtenLines : {B : Type 0} → (B → List ℕ) → List B → List ℕ
+writtenLines text [] = []
+writtenLines text (b ∷ bs) = text b ++ (10 ∷ writtenLines text bs)
+
+abbrev pub lineItself : List ℕ → List ℕ
+lineItself l = l
+
+abbrev pub contentsText : Contents → List ℕ
+contentsText c = writtenLines lineItself (contentsLines c)

@@ -5,6 +5,7 @@ ghost use Rattle.text.specs.Fields.{fieldOf, fieldsOf};
 ghost use Rattle.schedule.specs.declared.contents.NoteKind.{NoteKind as KindType};
 ghost use Rattle.schedule.specs.declared.contents.Pile.{Pile as PileType};
 ghost use Rattle.schedule.specs.Lines.{lineBy, seenLine, sameValue};
+ghost use Rattle.schedule.specs.Says.{ContentsSays};
 ghost use Rattle.schedule.specs.Contents.{kindOf, broadcastIn, consensusIn, pileIn, pileOf, countOf, contentsOf};
 use crate::contents::BroadcastPart;
 use crate::contents::ConsensusPart;
@@ -136,25 +137,33 @@ fn count_line<'a>(
     }
 }
 
+// The five lines of the contents, and what follows them.
+fn contents_lines<'a>(file: Part<'a>) -> Result<(Contents, Part<'a>), LineFault>
+    ensures { λ r. ⌜ seenLine sameValue r ≡ contentsOf (partOf (file .entry)) ⌝ }
+{
+    let (kind, rest) = first_line(file)?;
+    let (cards, rest) = count_line(rest, b"cards", 1, 6)?;
+    let (pile, rest) = first_line(rest)?;
+    let (notes, rest) = count_line(rest, b"notes", 0, 32)?;
+    let (events, rest) = count_line(rest, b"events", 0, 4096)?;
+    Ok((
+        Contents {
+            kind,
+            cards,
+            pile,
+            notes,
+            events,
+        },
+        rest,
+    ))
+}
+
 impl Contents {
-    // The contents, and what follows them.
+    // The contents that stand first, and what follows them, or the first line that is wrong.
     pub fn read<'a>(file: Part<'a>) -> Result<(Contents, Part<'a>), LineFault>
-        ensures { λ r. ⌜ seenLine sameValue r ≡ contentsOf (partOf (file .entry)) ⌝ }
+        ensures value { λ r. ⌜ seenLine sameValue r ≡ contentsOf (partOf (file .entry)) ⌝ }
+        ensures says { λ r. ⌜ ContentsSays (partOf (file .entry)) (seenLine sameValue r) ⌝ }
     {
-        let (kind, rest) = first_line(file)?;
-        let (cards, rest) = count_line(rest, b"cards", 1, 6)?;
-        let (pile, rest) = first_line(rest)?;
-        let (notes, rest) = count_line(rest, b"notes", 0, 32)?;
-        let (events, rest) = count_line(rest, b"events", 0, 4096)?;
-        Ok((
-            Contents {
-                kind,
-                cards,
-                pile,
-                notes,
-                events,
-            },
-            rest,
-        ))
+        contents_lines(file)
     }
 }
