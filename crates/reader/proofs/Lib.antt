@@ -1,2 +1,3 @@
 pub mod SectionLaws
 pub mod FileLaws
+pub mod SectionTexts
