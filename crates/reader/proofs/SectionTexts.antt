@@ -88,3 +88,33 @@ module _ {A B : Type 0} (rule : Span → Option A) (put : ℕ → B → A) (text
           fault = s .fault ∙ ap (λ e. faultAt (s .tail, e)) (o .1 .2);
           due = s .due;
         } ]
+
+  lines-some : (sofar : List A) (bs : List B) (r : List ℕ) (e : ℕ) → All Fit bs → (xs : List A) × (linesAfter rule sofar (length bs) (writtenLines text bs ++ r, e) ≡ Ok (xs, (r, e)))
+  lines-some sofar [] r e a = (sofar, refl)
+  lines-some sofar (b ∷ bs) r e a =
+    let rest = writtenLines text bs ++ r in
+    let x = put (placeOf (text b ++ (10 ∷ rest), e)) b in
+    let ih = lines-some (sofar ++ (x ∷ [])) bs r e (a .1) in
+    (
+      ih .0,
+      ap (λ u. linesAfter rule sofar (suc (length bs)) (u, e)) (append-assoc (text b) (10 ∷ writtenLines text bs) r)
+      ∙ ap (λ s. andThen s (λ q. linesAfter rule (sofar ++ (q .0 ∷ [])) (length bs) (q .1))) (one-back rule put text Fit w b rest e (a .0))
+      ∙ ih .1,
+    )
+
+  pub section-says : (count : ℕ) (p : Span) (s : Result (List A × Span) LineFault) (r : Result Span LineFault) → s ≡ linesOf rule count p → r ≡ endOf s → SectionSays text Fit count p r
+  section-says count p (Ok q) (Ok rest) e h =
+    let o = lines-only [] count p q (sym e) in
+    let same : q .1 ≡ rest = cc in
+    (o .0, subst (λ t. LinesStand text Fit count p t (o .0)) same (o .1))
+  section-says count p (Ok q) (Err f) e h = absurd (grind arith)
+  section-says count p (Err g) (Ok rest) e h = absurd (grind arith)
+  section-says count p (Err g) (Err f) e h =
+    let same : g ≡ f = cc in
+    (
+      subst (LinesStop text Fit count p) same (lines-stop [] count p g (sym e)),
+      λ rest bs l.
+        let o = lines-some [] bs (rest .0) (p .1) (l .fine) in
+        let z = e ∙ ap (λ u. linesOf rule count (u, p .1)) (l .stands) ∙ ap (λ k. linesOf rule k (writtenLines text bs ++ rest .0, p .1)) (sym (l .many)) ∙ o .1 in
+        absurd (grind arith),
+    )

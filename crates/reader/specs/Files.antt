@@ -52,7 +52,7 @@ abbrev pub eventsFault : LineFault → FileFault
 eventsFault f = Body (Events f)
 
 -- nothing may follow the last event
-abbrev ended : Whole → Span → Result Whole FileFault
+abbrev pub ended : Whole → Span → Result Whole FileFault
 ended w rest = cond (eqb (length (rest .0)) 0) (Ok w) (Err (Surplus (placeOf rest)))
 
 -- The schedule that a file says, or its first fault.
