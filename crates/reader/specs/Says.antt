@@ -15,7 +15,10 @@ use Rattle.schedule.specs.declared.fault.BodyFault.the-variants.{Notes, Events}
 use Rattle.schedule.specs.declared.fault.FileFault.{FileFault}
 use Rattle.schedule.specs.declared.fault.FileFault.the-variants.{Long, Body, Surplus, Contents as InContents}
 use Rattle.schedule.specs.Written.{eventText, EventAllowed, contentsLines, ContentsAllowed, contentsText, writtenLines, lineItself}
-use Rattle.reader.specs.Files.{Whole}
+use Rattle.reader.specs.declared.schedule.Schedule.{Schedule}
+use Rattle.reader.specs.declared.schedule.Unread.{Unread}
+use Rattle.reader.specs.declared.schedule.Unread.the-variants.{Fault, NoMemory}
+use Rattle.reader.specs.Files.{Whole, wholeIn}
 use Rattle.reader.specs.Written.{Note, noteText, NoteAllowed, Plan, written, Fine, Allowed, answered}
 
 -- Bytes that do not begin with the line of any of these things.
@@ -111,3 +114,13 @@ pub record OnlySchedule (file : List ℕ) (w : Whole) : Type 0 where
 abbrev pub FileSays : List ℕ → Result Whole FileFault → Type 0
 FileSays file (Ok w) = OnlySchedule file w
 FileSays file (Err f) = FirstFault file f × ((s : Plan) → Allowed s → file ≡ written s → ⊥)
+
+-- The same of the answers of a check and of a reading.
+abbrev pub CheckSays : List ℕ → Result Contents FileFault → Type 0
+CheckSays file (Ok c) = (w : Whole) × (w .contents ≡ c) × OnlySchedule file w
+CheckSays file (Err f) = FileSays file (Err f)
+
+abbrev pub ReadSays : List ℕ → Result Schedule Unread → Type 0
+ReadSays file (Ok s) = OnlySchedule file (wholeIn s)
+ReadSays file (Err (Fault f)) = FileSays file (Err f)
+ReadSays file (Err NoMemory) = (w : Whole) × OnlySchedule file w

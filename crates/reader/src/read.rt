@@ -5,6 +5,7 @@ ghost use Rattle.schedule.specs.Events.{eventOf};
 ghost use Rattle.text.specs.Parts.{partOf};
 ghost use Rattle.reader.specs.Sections.{notesOf};
 ghost use Rattle.reader.specs.Files.{scheduleOf, Holds, NotesHold, EventsHold, Refuses, Answers};
+ghost use Rattle.reader.specs.Says.{ReadSays};
 use crate::check::check;
 use crate::schedule::Notes;
 use crate::schedule::Schedule;
@@ -114,8 +115,7 @@ fn without_memory(file: &[u8]) -> Unread
     }
 }
 
-// The schedule that the file says, or its first fault; want of memory hides no fault.
-pub fn read<'a>(heap: Global, file: &'a [u8]) -> Result<Schedule<'a>, Unread>
+fn read_or_check<'a>(heap: Global, file: &'a [u8]) -> Result<Schedule<'a>, Unread>
     ensures { λ r. ⌜ Answers r (scheduleOf (now (file .entry))) ⌝ }
 {
     match read_whole(heap, file) {
@@ -123,4 +123,12 @@ pub fn read<'a>(heap: Global, file: &'a [u8]) -> Result<Schedule<'a>, Unread>
         Err(Unread::Fault(fault)) => Err(Unread::Fault(fault)),
         Err(Unread::NoMemory) => Err(without_memory(file)),
     }
+}
+
+// The schedule that the file says, or its first fault; want of memory hides no fault.
+pub fn read<'a>(heap: Global, file: &'a [u8]) -> Result<Schedule<'a>, Unread>
+    ensures value { λ r. ⌜ Answers r (scheduleOf (now (file .entry))) ⌝ }
+    ensures says { λ r. ⌜ ReadSays (now (file .entry)) r ⌝ }
+{
+    read_or_check(heap, file)
 }
