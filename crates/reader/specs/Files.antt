@@ -11,7 +11,7 @@ use Rattle.std.specs.declared.alloc.Global.{Global}
 use Rattle.std.specs.declared.vec.Vec.{Vec}
 use Rattle.std.specs.declared.result.Result.{Result}
 use Rattle.std.specs.declared.result.Result.the-variants.{Ok, Err}
-use Rattle.notes.specs.Models.{labelOf}
+use Rattle.labels.specs.Order.{labelOf}
 use Rattle.text.specs.Parts.{Span, partOf, wholeOf, placeOf}
 use Rattle.text.specs.declared.fault.LineFault.{LineFault}
 use Rattle.text.specs.declared.part.Part.{Part}

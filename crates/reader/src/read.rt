@@ -11,7 +11,7 @@ use crate::schedule::Notes;
 use crate::schedule::Schedule;
 use crate::schedule::Unread;
 use crate::section::read_lines;
-use notes::label::Label;
+use labels::Label;
 use notes::wear::Wear;
 use schedule::contents::Contents;
 use schedule::contents::NoteKind;

@@ -1,5 +1,5 @@
 // A schedule that was read from a file.
-use notes::label::Label;
+use labels::Label;
 use notes::wear::Wear;
 use schedule::contents::Contents;
 use schedule::event::Event;

@@ -10,7 +10,7 @@ ghost use Rattle.schedule.specs.Written.{eventText, EventAllowed};
 ghost use Rattle.reader.specs.Sections.{endSeen, endOf, itemsSeen, notesOf};
 ghost use Rattle.reader.specs.Written.{noteText, NoteAllowed};
 ghost use Rattle.reader.specs.Says.{SectionSays};
-use notes::label::Label;
+use labels::Label;
 use notes::wear::Wear;
 use schedule::contents::NoteKind;
 use schedule::event::Event;

@@ -10,7 +10,7 @@ use Rattle.std.proofs.shelf.Tests.{cond-true}
 use Rattle.std.specs.Written.{decimal}
 use Rattle.std.specs.declared.option.Option.{Option}
 use Rattle.std.specs.declared.option.Option.the-variants.{Some, None}
-use Rattle.notes.specs.Kinds.{printable, allPrintable, isLabel}
+use Rattle.labels.specs.Order.{printable, allPrintable, isLabel}
 use Rattle.notes.specs.declared.wear.Wear.{Wear}
 use Rattle.text.specs.Parts.{Span, placeOf}
 use Rattle.text.specs.Fields.{Cut, label, readField, readLabel, numberIn}

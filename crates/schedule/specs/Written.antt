@@ -7,7 +7,7 @@ use lib.Chars.{codes}
 use Rattle.std.specs.Written.{decimal}
 use Rattle.std.specs.declared.option.Option.{Option}
 use Rattle.std.specs.declared.option.Option.the-variants.{Some, None}
-use Rattle.notes.specs.Kinds.{isLabel}
+use Rattle.labels.specs.Order.{isLabel}
 use Rattle.notes.specs.declared.wear.Wear.{Wear}
 use Rattle.text.specs.Parts.{Span, placeOf}
 use Rattle.text.specs.Written.{Free, spaced}

@@ -7,8 +7,8 @@ use Rattle.std.specs.Options.{mapped}
 use Rattle.std.specs.declared.option.Option.{Option}
 use Rattle.std.specs.declared.option.Option.the-variants.{Some, None}
 use Rattle.std.specs.shelf.Text.{sameBytes}
-use Rattle.notes.specs.Kinds.{isLabel}
-use Rattle.notes.specs.Models.{labelOf}
+use Rattle.labels.specs.Order.{isLabel}
+use Rattle.labels.specs.Order.{labelOf}
 use Rattle.text.specs.declared.field.Field.{Field}
 use Rattle.text.specs.declared.field.Field.the-variants.{Number, Word, Label}
 use Rattle.text.specs.declared.field.Fields.{Fields}

@@ -7,8 +7,8 @@ ghost use Rattle.text.specs.Fields.{fieldOf, fieldsOf, readField, readLabel, c
 use crate::number::number;
 use crate::part::Part;
 use crate::part::PartDebug;
-use notes::label::Label;
-use notes::label::LabelDebug;
+use labels::Label;
+use labels::LabelDebug;
 
 // A word and a label are parts of the file, which know their place.
 #[derive(Clone, Copy, Debug)]

@@ -21,14 +21,21 @@ fn digits(text: &[u8]) -> Option<u32>
     Some(value)
 }
 
-// The number whose decimal digits these bytes are, if they are any number's of up to 32 bits.
-pub fn number(text: &[u8]) -> Option<u32>
-    ensures value { λ r. ⌜ r ≡ numeral (now (text .entry)) ⌝ }
-    ensures decimal { λ r. ⌜ Reads (now (text .entry)) r ⌝ }
+// Digits, but none before others that is a zero.
+fn without_leading_zero(text: &[u8]) -> Option<u32>
+    ensures { λ r. ⌜ r ≡ numeral (now (text .entry)) ⌝ }
 {
     match text {
         [] => None,
         [b'0', _, ..] => None,
         _ => digits(text),
     }
+}
+
+// The number whose decimal digits these bytes are, if they are any number's of up to 32 bits.
+pub fn number(text: &[u8]) -> Option<u32>
+    ensures value { λ r. ⌜ r ≡ numeral (now (text .entry)) ⌝ }
+    ensures decimal { λ r. ⌜ Reads (now (text .entry)) r ⌝ }
+{
+    without_leading_zero(text)
 }

@@ -27,7 +27,8 @@ impl<'a> Part<'a> {
     pub fn bytes(self) -> &'a [u8]
         ensures { λ r. ⌜ now r ≡ partOf (self .entry) .0 ⌝ }
     {
-        self.bytes
+        let Part { bytes, .. } = self;
+        bytes
     }
 
     // Where its first byte stands in the file.

@@ -2,11 +2,11 @@
 ghost use mathlib.Core.Path.{_≡_};
 ghost use mathlib.Core.List.{List};
 ghost use Prim.Native.Nat.{ℕ};
-ghost use Rattle.notes.specs.Models.{labelOf};
+ghost use Rattle.labels.specs.Order.{labelOf};
 ghost use Rattle.notes.specs.declared.wear.Wear.{Wear as WearType};
 ghost use Rattle.schedule.specs.Notes.{wearOf, labelAt};
 use crate::reader::line::OneLine;
-use notes::label::Label;
+use labels::Label;
 use notes::wear::Wear;
 use text::field::Field;
 use text::field::Fields;
