@@ -1,5 +1,8 @@
 -- The cause, the place and the layer of each fault.
+use mathlib.Core.List.{List, [], _∷_, _++_}
 use Prim.Native.Nat.{ℕ}
+use lib.Chars.{codes}
+use Rattle.std.specs.Written.{decimal}
 use Rattle.text.specs.Faults.{faultPlace}
 use Rattle.schedule.specs.declared.fault.BodyFault.{BodyFault}
 use Rattle.schedule.specs.declared.fault.BodyFault.the-variants.{Notes, Events}
@@ -34,3 +37,13 @@ layerOf Long = layers.File
 layerOf (Contents fault) = layers.Contents
 layerOf (Body fault) = bodyLayer fault
 layerOf (Surplus place) = layers.File
+
+abbrev pub layerWord : Layer → List ℕ
+layerWord layers.File = codes "file"
+layerWord layers.Contents = codes "contents"
+layerWord layers.Notes = codes "notes"
+layerWord layers.Events = codes "events"
+
+-- what a fault is printed as
+abbrev pub faultText : FileFault → List ℕ
+faultText f = decimal (causeOf f) ++ (32 ∷ (decimal (placeOf f) ++ (32 ∷ layerWord (layerOf f))))

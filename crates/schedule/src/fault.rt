@@ -1,6 +1,8 @@
 // What can be wrong with a schedule file.
 ghost use mathlib.Core.Path.{_≡_};
-ghost use Rattle.schedule.specs.Faults.{causeOf, placeOf, layerOf};
+ghost use Rattle.std.specs.declared.option.Option.the-variants.{Some};
+ghost use Rattle.schedule.specs.Faults.{causeOf, placeOf, layerOf, layerWord, faultText};
+use std::fmt;
 use text::fault::LineFault;
 use text::fault::LineFaultDebug;
 use text::fault::LineFaultEq;
@@ -71,5 +73,30 @@ impl FileFault {
             FileFault::Body(BodyFault::Events(_)) => Layer::Events,
             FileFault::Surplus { .. } => Layer::File,
         }
+    }
+}
+
+impl Layer {
+    pub fn name(self) -> &'static str
+        ensures { λ r. ⌜ now r ≡ layerWord self ⌝ }
+    {
+        match self {
+            Layer::File => "file",
+            Layer::Contents => "contents",
+            Layer::Notes => "notes",
+            Layer::Events => "events",
+        }
+    }
+}
+
+// The cause, the place and the layer.
+pub impl fmt::Display for FileFault as FileFaultDisplay {
+    ghost shown = { λ f. Some (faultText f) };
+
+    fn fmt<W: fmt::Write>(&self, f: &mut fmt::Formatter<W>) -> fmt::Result {
+        let cause = self.cause();
+        let place = self.place();
+        let layer = self.layer().name();
+        write!(f, "{cause} {place} {layer}")
     }
 }
