@@ -6,7 +6,7 @@ use Prim.Native.Nat.{ℕ}
 use native.Mathlib.Omega.{arith}
 use borrow.Author.Tests.{clash}
 use Rattle.std.proofs.shelf.Ways.{tells}
-use Rattle.notes.specs.Kinds.{labelBefore}
+use Rattle.labels.specs.Order.{labelBefore}
 
 pub label-total : (xs ys : List ℕ) → (labelBefore xs ys || labelBefore ys xs) ≡ true
 label-total [] ys = refl

@@ -1,2 +1,4 @@
 pub mod Bits
+pub mod Counting
 mod Labels
+mod Ranks

@@ -5,9 +5,9 @@ use Rattle.notes.proofs.Labels.{label-total, label-transitive}
 use Rattle.notes.proofs.label.LabelKind.may_precede.Met
 use Rattle.notes.proofs.label.LabelKind.may_precede.Symbol
 use Rattle.notes.proofs.label.LabelKind.the-impl.Statement
-use Rattle.notes.specs.Models.{labelOf}
+use Rattle.labels.specs.Order.{labelOf}
 use Rattle.notes.specs.contracts.kind.Kind.may_precede as asked
-use Rattle.notes.specs.contracts.label.Label
+use Rattle.labels.specs.contracts.Label
 use Rattle.notes.specs.contracts.label.LabelKind.may_precede as own
 use Rattle.notes.specs.contracts.label.LabelKind.the-impl.{ghosts, dict}
 use base.Logic

@@ -1,6 +1,6 @@
 use borrow.Author.Needs.{needs}
 use Rattle.std.proofs.shelf.Lists.{nil-from-length}
-use Rattle.notes.proofs.label.+all_printable.Needs as need
+use Rattle.labels.proofs.+all_printable.Needs as need
 
 -- No byte is left.
 pub returns-in-rest : need.returns-in-rest
