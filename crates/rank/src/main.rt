@@ -1,15 +1,16 @@
 // Ranks the notes of a schedule file: the file on standard input, the notes in ranking order on standard output.
 mod listing;
 
+use crate::listing::LabelListed;
+use crate::listing::WearListed;
 use crate::listing::print_ranked;
 use reader::read::read;
 use reader::schedule::Notes;
 use reader::schedule::Schedule;
 use reader::schedule::Unread;
+use schedule::fault::FileFaultDisplay;
 use std::error::AnyError;
 use std::io::Read;
-use crate::listing::LabelListed;
-use crate::listing::WearListed;
 
 fn print_notes(rt: &LibcRuntime, notes: Notes<'_>) -> Result<(), AnyError> {
     match notes {
