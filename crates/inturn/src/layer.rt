@@ -6,6 +6,7 @@ ghost use Rattle.inturn.specs.Turns.{written};
 ghost use Rattle.inturn.specs.Layers.{Layered, layered, handedInTurn, madeInTurn, HeldInTurn, InOrder};
 ghost use Rattle.inturn.specs.Models.{layerOf};
 ghost use Rattle.inturn.specs.Calls.{behaviour, AsBelow, TwiceAsOnce};
+use self::facts::agreement_carries_over;
 use self::facts::all_is_as_below;
 use self::facts::notes_count_in_order;
 use self::facts::two_layers_are_one;
@@ -125,7 +126,9 @@ pub impl<B: Broadcast> Broadcast for InTurn<B> as InTurnBroadcast {
 
 pub impl<B: Uniform> Uniform for InTurn<B> as InTurnUniform {
     fn is_quiet(&self) -> bool {
-        self.lower.is_quiet()
+        let quiet = self.lower.is_quiet();
+        agreement_carries_over(self, quiet);
+        quiet
     }
 }
 
@@ -136,8 +139,9 @@ impl<B: Broadcast> InTurn<B> {
         ensures rule { λ r. ⌜ (madeInTurn (B·Broadcast .made) (B·Broadcast .poster) (layerOf (B·Broadcast .state) (now (self .entry))) → Decides r (HeldInTurn (layerOf (B·Broadcast .state) (now (self .entry)) .posts) (B·Broadcast .handed (layerOf (B·Broadcast .state) (now (self .entry)) .below) card) note)) ⌝ }
         ensures order { λ _. ⌜ (madeInTurn (B·Broadcast .made) (B·Broadcast .poster) (layerOf (B·Broadcast .state) (now (self .entry))) → InOrder (layerOf (B·Broadcast .state) (now (self .entry)) .posts) (handedInTurn (B·Broadcast .handed) (layerOf (B·Broadcast .state) (now (self .entry))))) ⌝ }
     {
-        notes_count_in_order(self, card, note);
-        self.handed_to(card).contains(note)
+        let counts = self.handed_to(card).contains(note);
+        notes_count_in_order(self, card, note, counts);
+        counts
     }
 
     // Takes the layer off. But for the handed sets, all was as in the broadcast below.
@@ -158,7 +162,6 @@ impl<B: Broadcast> InTurn<InTurn<B>> {
         ensures as_once { λ _. ⌜ TwiceAsOnce (behaviour B·Broadcast) ⌝ }
     {
         two_layers_are_one::<B>();
-        let InTurn { lower, table: _ } = self;
-        lower
+        self.into_lower()
     }
 }

@@ -10,8 +10,8 @@ returns g c =
     let s = layerOf (b .state) (c .args .layer .now) in
     let v = shown b (s .below) in
     record {
-      rule = λ r e m.
+      rule = λ m.
           let law = g .B·Broadcast·met .meaning .lawful (s .below) (m .0) in
-          (λ t. counts-held (s .posts) v law (m .1) (c .args .card) (c .args .note) (sym e ∙ t), λ h. e ∙ held-counts (s .posts) v law (m .1) (c .args .card) (c .args .note) h);
+          (λ t. counts-held (s .posts) v law (m .1) (c .args .card) (c .args .note) (sym (c .pre) ∙ t), λ h. c .pre ∙ held-counts (s .posts) v law (m .1) (c .args .card) (c .args .note) h);
       order = λ m. in-order (s .posts) v (g .B·Broadcast·met .meaning .lawful (s .below) (m .0)) (m .1);
     }
