@@ -1,15 +1,14 @@
 -- From what the broadcast below means to what the layer means.
 use mathlib.Core.Path.{_≡_, refl, sym, ap, subst, _∙_}
-use mathlib.Core.Bool.{Bool, true, false, cond}
+use mathlib.Core.Bool.{true, false}
 use mathlib.Core.List.{List, [], _∷_, _++_}
 use mathlib.Core.Logic.{⊎-elim}
-use Prim.Native.Nat.{ℕ, _≤_, _<_}
+use Prim.Native.Nat.{ℕ, _<_}
 use native.Mathlib.Omega.{arith}
 use lib.ListN.{length}
 use Rattle.std.proofs.shelf.Tests.{cases-bool, cases-eq, both-ways}
 use Rattle.std.specs.Options.{isSome}
-use Rattle.std.specs.declared.option.Option.{Option}
-use Rattle.std.specs.declared.option.Option.the-variants.{Some, None}
+use Rattle.std.specs.declared.option.Option.the-variants.{Some}
 use Rattle.notes.specs.Sets.{has}
 use Rattle.parts.specs.Views.{BroadcastView}
 use Rattle.parts.specs.Broadcasting.{HandedMore, Lawful, UniformAgreement, Meaning}
@@ -18,7 +17,7 @@ use Rattle.parts.proofs.Accepted.{post-accepted}
 use Rattle.parts.proofs.Options.{some-held}
 use Rattle.inturn.specs.declared.post.Post.{Post}
 use Rattle.inturn.specs.Turns.{postOf, postAt, inTurn, written}
-use Rattle.inturn.specs.Layers.{Layered, layered, shownInTurn, Agrees, PostedBefore, HeldInTurn, InOrder, madeInTurn}
+use Rattle.inturn.specs.Layers.{Layered, shownInTurn, Agrees, HeldInTurn, InOrder, madeInTurn}
 use Rattle.inturn.specs.Calls.{Behaviour, inTurnOver}
 use Rattle.inturn.proofs.Turns.{counted-place, place-counted, clear-all, earlier-counts, counted-held, in-turn-more, in-turn-none, in-turn-fits}
 use Rattle.inturn.proofs.Tables.{agrees-none, agrees-same, agrees-more, room-for-more, in-turn-new, in-turn-kept}

@@ -1,16 +1,15 @@
 -- What lists of calls make of one layer and of two.
-use mathlib.Core.Path.{_≡_, refl, sym, ap, subst, _∙_}
+use mathlib.Core.Path.{_≡_, refl, sym, ap, _∙_}
 use mathlib.Core.Bool.{Bool, true, false, cond}
 use mathlib.Core.List.{List, [], _∷_, _++_}
 use Prim.Native.Nat.{ℕ}
 use lib.Dec.{eqb}
 use Rattle.std.proofs.shelf.Lists.{append-nil, append-assoc}
 use Rattle.std.proofs.shelf.Tests.{cond-both, eqb-true}
-use Rattle.parts.specs.Views.{BroadcastView}
 use Rattle.parts.specs.Refusals.{postAnswer}
 use Rattle.inturn.specs.declared.post.Post.{Post}
-use Rattle.inturn.specs.Turns.{postOf, written, inTurn}
-use Rattle.inturn.specs.Layers.{Layered, layered, shownInTurn}
+use Rattle.inturn.specs.Turns.{postOf, written}
+use Rattle.inturn.specs.Layers.{Layered, layered}
 use Rattle.inturn.specs.Calls.{Behaviour, inTurnOver, Call, post, carry, lose, crash, suspect, answer, accepted, next, after, answers, postsIn, acceptedPosts, AsBelow, TwiceAsOnce}
 use Rattle.inturn.proofs.Turns.{in-turn-again}
 use Rattle.inturn.proofs.Layers.{Means, small-notes, MadeOver, table-grows, means-in-turn}

@@ -1,14 +1,14 @@
 -- The table agrees with the posters below.
 use mathlib.Core.Path.{_≡_, refl, sym, ap, subst, _∙_}
-use mathlib.Core.Bool.{Bool, true, false, cond}
+use mathlib.Core.Bool.{true, false, cond}
 use mathlib.Core.List.{List, [], _∷_, _++_}
 use mathlib.Core.Logic.{⊎-elim, _⊎_, inl, inr}
-use Prim.Native.Nat.{ℕ, zero, suc, _+_, _≤_, _<_}
+use Prim.Native.Nat.{ℕ, _+_, _<_}
 use native.Mathlib.Omega.{arith}
 use lib.Dec.{eqb, ltb}
-use lib.ListN.{length, getD}
+use lib.ListN.{length}
 use Rattle.std.proofs.shelf.Lists.{getD-append-left, getD-push, length-push}
-use Rattle.std.proofs.shelf.Tests.{cases-bool, cases-eq, eqb-true, eq-eqb, cond-true, cond-false, both-ways, ne-eqb, lt-ltb}
+use Rattle.std.proofs.shelf.Tests.{cases-eq, eq-eqb, cond-true, cond-false, both-ways, ne-eqb, lt-ltb}
 use Rattle.std.specs.Options.{isSome}
 use Rattle.std.specs.declared.option.Option.{Option}
 use Rattle.std.specs.declared.option.Option.the-variants.{Some, None}
@@ -16,8 +16,8 @@ use Rattle.notes.specs.Sets.{has}
 use Rattle.notes.proofs.Counting.{pigeonhole}
 use Rattle.inturn.specs.declared.post.Post.{Post}
 use Rattle.inturn.specs.Turns.{postOf, postAt, counts, inTurn, written}
-use Rattle.inturn.specs.Layers.{Agrees, PostedBefore, HeldInTurn}
-use Rattle.inturn.proofs.Turns.{Counted, counted-place, place-counted, clear-each, clear-all, same-notes}
+use Rattle.inturn.specs.Layers.{Agrees}
+use Rattle.inturn.proofs.Turns.{counted-place, place-counted, clear-each, clear-all, same-notes}
 
 pub agrees-none : (poster : ℕ → Option ℕ) → ((m : ℕ) → poster m ≡ None) → Agrees poster []
 agrees-none poster none =

@@ -1,22 +1,21 @@
 -- Which notes count.
-use mathlib.Core.Path.{_≡_, refl, sym, ap, subst, _∙_}
-use mathlib.Core.Bool.{Bool, true, false, cond, not, _||_, _&&_}
-use mathlib.Core.List.{List, [], _∷_, _++_}
-use mathlib.Core.Logic.{⊎-elim, _⊎_, inl, inr}
+use mathlib.Core.Path.{_≡_, refl, sym, ap, _∙_}
+use mathlib.Core.Bool.{Bool, true, false, cond, not, _&&_}
+use mathlib.Core.List.{List}
+use mathlib.Core.Logic.{⊎-elim, _⊎_}
 use Prim.Native.Nat.{ℕ, zero, suc, _+_, _^_, _≤_, _<_}
 use native.Mathlib.Numerals.{add-one}
 use native.Mathlib.Omega.{arith}
 use lib.Bits.{or-lt}
-use lib.Dec.{eqb, ltb}
-use lib.ListN.{length, getD}
+use lib.Dec.{ltb}
+use lib.ListN.{length}
 use lib.Pow.{pow-lt, pow-pos}
-use Rattle.std.proofs.shelf.Lists.{getD-append-left, getD-push, length-push}
-use Rattle.std.proofs.shelf.Tests.{cases-bool, cases-eq, or-cases, or-left, or-right, and-parts, and-from, eqb-true, eq-eqb, leb-true, le-leb, cond-true, cond-false, cond-both, both-ways, not-true, not-from-false, ne-eqb, lt-ltb, ltb-true}
+use Rattle.std.proofs.shelf.Tests.{cases-bool, cases-eq, or-cases, or-left, or-right, and-parts, and-from, eqb-true, eq-eqb, leb-true, le-leb, cond-true, cond-false, cond-both, both-ways, not-true, not-from-false, lt-ltb, ltb-true}
 use Rattle.std.proofs.shelf.Ways.{tells}
 use Rattle.notes.specs.Sets.{has, added}
 use Rattle.notes.proofs.Bits.{has-none, has-added, same-sets}
 use Rattle.inturn.specs.declared.post.Post.{Post}
-use Rattle.inturn.specs.Turns.{postOf, postAt, keepsBack, clearOf, counts, countedOf, inTurn}
+use Rattle.inturn.specs.Turns.{postAt, keepsBack, clearOf, counts, countedOf, inTurn}
 
 -- One post more, as the loops go.
 pub clear-more : (posts : List Post) (s i k : ℕ) (b : Bool) → b ≡ clearOf posts s i k → (b && not (keepsBack posts s i k)) ≡ clearOf posts s i (k + 1)
