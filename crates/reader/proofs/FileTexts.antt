@@ -1,9 +1,9 @@
 -- The file that is accepted is the written form of its schedule; the first fault stands where what was read ends.
 use mathlib.Core.Path.{_≡_, refl, sym, ap, subst, _∙_}
-use mathlib.Core.Bool.{Bool, true, false, cond}
+use mathlib.Core.Bool.{true, false}
 use mathlib.Core.Logic.{⊎-elim}
 use mathlib.Core.List.{List, [], _∷_, _++_, append-nil, append-assoc}
-use Prim.Native.Nat.{ℕ, suc, zero, _+_, _-_, _≤_, _<_}
+use Prim.Native.Nat.{ℕ, _+_, _≤_, _<_}
 use native.Mathlib.Omega.{arith}
 use lib.Dec.{eqb, ltb}
 use lib.ListN.{length, length-append, take}
@@ -29,7 +29,6 @@ use Rattle.schedule.specs.Notes.{wearOf, labelAt}
 use Rattle.schedule.specs.Events.{eventOf}
 use Rattle.schedule.specs.Contents.{contentsOf}
 use Rattle.schedule.specs.Written.{anywhere, wearText, WearAllowed, labelPut, labelText, LabelAllowed, eventText, EventAllowed, contentsLines, ContentsAllowed, contentsText, writtenLines, lineItself}
-use Rattle.schedule.specs.Says.{ContentsStop, ContentsSays}
 use Rattle.schedule.proofs.NoteLaws.{wear-reads, label-reads}
 use Rattle.schedule.proofs.EventLaws.{event-reads}
 use Rattle.schedule.proofs.ContentsWhole.{contents-say, contents-read-back}
@@ -38,8 +37,8 @@ use Rattle.reader.specs.declared.schedule.Unread.{Unread}
 use Rattle.reader.specs.declared.schedule.Unread.the-variants.{Fault, NoMemory}
 use Rattle.reader.specs.Sections.{endOf, Noted, wears, labels, firstBy, notesOf}
 use Rattle.reader.specs.Files.{Whole, wholeIn, notesFault, eventsFault, ended, scheduleOf, contentsIn, Answers}
-use Rattle.reader.specs.Written.{Note, noteText, NoteAllowed, Plan, written, Fine, Allowed, putLines, notedAt, answered}
-use Rattle.reader.specs.Says.{NoLine, LinesStand, LinesStop, Breaks, BreaksInContents, BreaksInNotes, BreaksInEvents, GoesOn, FirstFault, OnlySchedule, FileSays, SectionSays, CheckSays, ReadSays}
+use Rattle.reader.specs.Written.{Note, noteText, NoteAllowed, Plan, written, Fine, Allowed, notedAt, answered}
+use Rattle.reader.specs.Says.{NoLine, LinesStand, LinesStop, Breaks, FirstFault, OnlySchedule, FileSays, SectionSays, CheckSays, ReadSays}
 use Rattle.reader.proofs.SectionTexts.{put-anywhere, lines-only, lines-back, lines-stop, section-says}
 
 -- Notes of either kind

@@ -1,7 +1,7 @@
 -- The whole file.
 use mathlib.Core.Path.{_≡_}
 use mathlib.Core.Bool.{true, cond}
-use mathlib.Core.List.{List, [], _∷_, map}
+use mathlib.Core.List.{List, map}
 use Prim.Native.Nat.{ℕ}
 use lib.Dec.{eqb, ltb}
 use lib.ListN.{length}
@@ -17,7 +17,6 @@ use Rattle.text.specs.declared.fault.LineFault.{LineFault}
 use Rattle.text.specs.declared.part.Part.{Part}
 use Rattle.schedule.specs.declared.contents.Contents.{Contents}
 use Rattle.schedule.specs.declared.event.Event.{Event}
-use Rattle.schedule.specs.declared.fault.BodyFault.{BodyFault}
 use Rattle.schedule.specs.declared.fault.BodyFault.the-variants.{Notes, Events}
 use Rattle.schedule.specs.declared.fault.FileFault.{FileFault}
 use Rattle.schedule.specs.declared.fault.FileFault.the-variants.{Long, Body, Surplus, Contents as InContents}

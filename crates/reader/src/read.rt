@@ -1,5 +1,4 @@
 // Reading a file into memory.
-ghost use mathlib.Core.Path.{_≡_};
 ghost use Rattle.schedule.specs.Lines.{linesOf};
 ghost use Rattle.schedule.specs.Events.{eventOf};
 ghost use Rattle.text.specs.Parts.{partOf};

@@ -1,7 +1,7 @@
 // Sections: so many lines of one kind.
 ghost use mathlib.Core.Path.{_≡_};
 ghost use mathlib.Core.List.{[]};
-ghost use Prim.Native.Nat.{ℕ, _+_, _≤_};
+ghost use Prim.Native.Nat.{_+_, _≤_};
 ghost use Rattle.std.specs.Of.Vec.{vec-items, vec-len, vec-cap};
 ghost use Rattle.text.specs.Parts.{partOf};
 ghost use Rattle.schedule.specs.Lines.{linesOf};

@@ -1,16 +1,16 @@
 -- The contents that are read are those that stand there, and none stand where they are refused.
 use mathlib.Core.Path.{_≡_, refl, sym, ap, subst, _∙_}
-use mathlib.Core.Bool.{Bool, true, false}
+use mathlib.Core.Bool.{false}
 use mathlib.Core.List.{List, [], _∷_, _++_, append-assoc}
-use Prim.Native.Nat.{ℕ, _<_, _≤_}
+use Prim.Native.Nat.{ℕ, _<_}
 use native.Mathlib.Omega.{arith}
 use lib.Chars.{codes}
-use lib.ListN.{length, take, getD}
+use lib.ListN.{take, getD}
 use Rattle.std.specs.declared.option.Option.{Option}
 use Rattle.std.specs.declared.result.Result.{Result}
 use Rattle.std.specs.declared.result.Result.the-variants.{Ok, Err}
 use Rattle.text.specs.declared.fault.LineFault.{LineFault}
-use Rattle.text.specs.Parts.{Span, placeOf, faultAt}
+use Rattle.text.specs.Parts.{Span, faultAt}
 use Rattle.schedule.specs.declared.contents.NoteKind.{NoteKind}
 use Rattle.schedule.specs.declared.contents.NoteKind.the-variants.{Wear}
 use Rattle.schedule.specs.declared.contents.BroadcastPart.the-variants.{Relay}

@@ -1,16 +1,14 @@
 -- The note readers read what is written of notes, and nothing else.
 use mathlib.Core.Path.{_≡_, refl, sym, ap, subst, _∙_}
-use mathlib.Core.Bool.{Bool, true, false, cond, _&&_}
+use mathlib.Core.Bool.{true}
 use mathlib.Core.List.{List, [], _∷_, map}
-use Prim.Native.Nat.{ℕ, _^_, _≤_, _<_}
+use Prim.Native.Nat.{ℕ}
 use native.Mathlib.Omega.{arith}
-use lib.Dec.{leb}
 use Rattle.std.proofs.shelf.Ways.{tells}
 use Rattle.std.proofs.shelf.Tests.{cond-true}
 use Rattle.std.specs.Written.{decimal}
-use Rattle.std.specs.declared.option.Option.{Option}
 use Rattle.std.specs.declared.option.Option.the-variants.{Some, None}
-use Rattle.labels.specs.Order.{printable, allPrintable, isLabel}
+use Rattle.labels.specs.Order.{allPrintable, isLabel}
 use Rattle.notes.specs.declared.wear.Wear.{Wear}
 use Rattle.text.specs.Parts.{Span, placeOf}
 use Rattle.text.specs.Fields.{Cut, label, readField, readLabel, numberIn}

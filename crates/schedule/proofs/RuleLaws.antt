@@ -1,11 +1,9 @@
 -- Reading one line by a rule that reads what is written and nothing else.
-use mathlib.Core.Path.{_≡_, refl, sym, ap, subst, _∙_}
-use mathlib.Core.Bool.{true, false, cond}
+use mathlib.Core.Path.{_≡_, refl, sym, ap, _∙_}
 use mathlib.Core.Logic.{_⊎_, inl, inr}
-use mathlib.Core.List.{List, [], _∷_, _++_}
+use mathlib.Core.List.{List, _∷_, _++_}
 use Prim.Native.Nat.{ℕ, suc, _+_, _-_}
 use native.Mathlib.Omega.{arith}
-use lib.Dec.{eqb}
 use lib.ListN.{length, length-append}
 use Rattle.std.proofs.shelf.Tests.{cond-false, ne-eqb}
 use Rattle.std.specs.declared.option.Option.{Option}
@@ -13,7 +11,7 @@ use Rattle.std.specs.declared.option.Option.the-variants.{Some, None}
 use Rattle.std.specs.declared.result.Result.{Result}
 use Rattle.std.specs.declared.result.Result.the-variants.{Ok, Err}
 use Rattle.text.specs.declared.fault.LineFault.{LineFault}
-use Rattle.text.specs.declared.fault.LineFault.the-variants.{Absent, Wrong}
+use Rattle.text.specs.declared.fault.LineFault.the-variants.{Wrong}
 use Rattle.text.specs.Parts.{Span, placeOf, faultAt, lineOf}
 use Rattle.text.proofs.LineLaws.{line-only, line-back, line-fault}
 use Rattle.schedule.specs.Chains.{andThen}

@@ -1,7 +1,7 @@
 // Reading the contents.
 ghost use mathlib.Core.Path.{_≡_};
 ghost use Rattle.text.specs.Parts.{partOf};
-ghost use Rattle.text.specs.Fields.{fieldOf, fieldsOf};
+ghost use Rattle.text.specs.Fields.{fieldOf};
 ghost use Rattle.schedule.specs.declared.contents.NoteKind.{NoteKind as KindType};
 ghost use Rattle.schedule.specs.declared.contents.Pile.{Pile as PileType};
 ghost use Rattle.schedule.specs.Lines.{lineBy, seenLine, sameValue};

@@ -1,7 +1,5 @@
 // Reading an event.
 ghost use mathlib.Core.Path.{_≡_};
-ghost use Rattle.text.specs.Parts.{partOf};
-ghost use Rattle.text.specs.Fields.{fieldOf, fieldsOf};
 ghost use Rattle.schedule.specs.declared.event.Event.{Event as EventType};
 ghost use Rattle.schedule.specs.Events.{operandsOf, oneNumber, twoNumbers, wireItem, wireOf, eventBy, eventOf};
 use crate::event::Event;

@@ -1,7 +1,5 @@
 // What one line of a body says.
 ghost use mathlib.Core.Path.{_≡_};
-ghost use Prim.Native.Nat.{ℕ};
-ghost use mathlib.Core.List.{List};
 ghost use Rattle.std.specs.Options.{mapped};
 ghost use Rattle.std.specs.declared.option.Option.{Option};
 ghost use Rattle.text.specs.Parts.{Span, partOf};

@@ -1,5 +1,4 @@
 // Reading a note.
-ghost use mathlib.Core.Path.{_≡_};
 ghost use mathlib.Core.List.{List};
 ghost use Prim.Native.Nat.{ℕ};
 ghost use Rattle.labels.specs.Order.{labelOf};
