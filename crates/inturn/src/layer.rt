@@ -4,7 +4,7 @@ ghost use Rattle.std.specs.Orderings.{Decides};
 ghost use Rattle.notes.specs.Sets.{has};
 ghost use Rattle.inturn.specs.Turns.{written};
 ghost use Rattle.inturn.specs.Layers.{Layered, layered, handedInTurn, madeInTurn, HeldInTurn, InOrder};
-ghost use Rattle.inturn.specs.Models.{layerOf};
+ghost use Rattle.inturn.specs.Models.{layerOf, postedIn, Made, viewBelow, viewInTurn};
 ghost use Rattle.inturn.specs.Calls.{behaviour, AsBelow, TwiceAsOnce};
 use self::facts::agreement_carries_over;
 use self::facts::all_is_as_below;
@@ -135,9 +135,9 @@ pub impl<B: Uniform> Uniform for InTurn<B> as InTurnUniform {
 impl<B: Broadcast> InTurn<B> {
     // Whether a note counts as handed to a card: it and all earlier posts of its poster are handed below. These then count too.
     pub fn counts_as_handed(&self, card: usize, note: usize) -> bool
-        ensures answer { λ r. ⌜ r ≡ has (handedInTurn (B·Broadcast .handed) (layerOf (B·Broadcast .state) (now (self .entry))) card) note ⌝ }
-        ensures rule { λ r. ⌜ (madeInTurn (B·Broadcast .made) (B·Broadcast .poster) (layerOf (B·Broadcast .state) (now (self .entry))) → Decides r (HeldInTurn (layerOf (B·Broadcast .state) (now (self .entry)) .posts) (B·Broadcast .handed (layerOf (B·Broadcast .state) (now (self .entry)) .below) card) note)) ⌝ }
-        ensures order { λ _. ⌜ (madeInTurn (B·Broadcast .made) (B·Broadcast .poster) (layerOf (B·Broadcast .state) (now (self .entry))) → InOrder (layerOf (B·Broadcast .state) (now (self .entry)) .posts) (handedInTurn (B·Broadcast .handed) (layerOf (B·Broadcast .state) (now (self .entry))))) ⌝ }
+        ensures answer { λ r. ⌜ r ≡ has (viewInTurn B·Broadcast (now (self .entry)) .handed card) note ⌝ }
+        ensures rule { λ r. ⌜ (Made B·Broadcast (now (self .entry)) → Decides r (HeldInTurn (postedIn (now (self .entry))) (viewBelow B·Broadcast (now (self .entry)) .handed card) note)) ⌝ }
+        ensures order { λ _. ⌜ (Made B·Broadcast (now (self .entry)) → InOrder (postedIn (now (self .entry))) (viewInTurn B·Broadcast (now (self .entry)) .handed)) ⌝ }
     {
         let counts = self.handed_to(card).contains(note);
         notes_count_in_order(self, card, note, counts);
