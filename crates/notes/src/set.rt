@@ -40,7 +40,8 @@ impl NoteSet {
     pub fn to_bits(self) -> u32
         ensures { λ r. ⌜ r ≡ bits self ⌝ }
     {
-        self.mask
+        let NoteSet { mask } = self;
+        mask
     }
 
     pub fn is_empty(self) -> bool
@@ -109,7 +110,7 @@ impl NoteSet {
         ensures held { λ r. ⌜ Cases r (bits self ≡ 0) (λ m. (m < 32) × (has (bits self) m ≡ true) × ((k : ℕ) → k < m → has (bits self) k ≡ false)) ⌝ }
     {
         lowest_bit_is_note(self.mask);
-        if self.mask == 0 {
+        if self.is_empty() {
             None
         } else {
             Some(self.mask.trailing_zeros() as usize)
