@@ -1,0 +1,4 @@
+pub mod Pairs
+pub mod Rooms
+pub mod Works
+pub mod Keeps

@@ -1,0 +1,37 @@
+-- There is room for what a relay sends, and then for every relay still to come.
+use mathlib.Core.Path.{_≡_, sym, ap, _∙_}
+use mathlib.Core.Bool.{Bool, true, false, not, _&&_}
+use mathlib.Core.List.{_++_}
+use Prim.Native.Nat.{ℕ, _+_, _*_, _≤_, _<_}
+use native.Mathlib.Omega.{arith}
+use lib.Dec.{ltb}
+use lib.ListN.{length}
+use Rattle.std.proofs.shelf.Lists.{length-append, length-map}
+use Rattle.std.proofs.shelf.Tests.{and-parts, ltb-true, not-true}
+use Rattle.notes.specs.Models.{bits}
+use Rattle.notes.specs.Sets.{has}
+use Rattle.shared.specs.Cards.{cardsOf}
+use Rattle.shared.specs.Tables.{cardSetsOf, setIn, withNote}
+use Rattle.shared.specs.Wires.{itemsOf, roomOf, sent}
+use Rattle.shared.proofs.Wires.{length-sent-others}
+use Rattle.spread.specs.Counts.{unrelayed}
+use Rattle.spread.specs.Spread.{SpreadState, spreadOf, lacks}
+use Rattle.spread.specs.declared.state.Spread.{Spread}
+use Rattle.spread.proofs.Pairs.{unrelayed-falls}
+
+pub lacks-parts : (x : SpreadState) (p m : ℕ) → lacks x p m ≡ true → (p < x .cards .count) × (m < 32) × (has (setIn (x .relayed) p) m ≡ false)
+lacks-parts x p m h =
+    let a = and-parts _ _ h in
+    let b = and-parts _ _ (a .1) in
+    (ltb-true _ _ (a .0), ltb-true _ _ (b .0), not-true _ (b .1))
+
+pub relay-room : (s : Spread) (p m : ℕ) → lacks (spreadOf s) p m ≡ true
+    → (length (itemsOf (s .wire)) + length (sent (cardsOf (s .cards)) p m (s .cards .count)) ≤ roomOf (s .wire))
+    × (length (itemsOf (s .wire) ++ sent (cardsOf (s .cards)) p m (s .cards .count)) + 5 * unrelayed (withNote (cardSetsOf (s .relayed)) p m) ≤ roomOf (s .wire))
+relay-room s p m h =
+    let l = lacks-parts (spreadOf s) p m h in
+    let few = length-sent-others (cardsOf (s .cards)) p m (s .cards .count) (l .0) in
+    let six : length (cardSetsOf (s .relayed)) ≡ 6 = length-map (s .relayed .sets) bits ∙ s .relayed .cards in
+    let less = unrelayed-falls (cardSetsOf (s .relayed)) p m six (omega (arith, l .0, s .cards .few)) (l .1) (l .2) in
+    let all = length-append (itemsOf (s .wire)) (sent (cardsOf (s .cards)) p m (s .cards .count)) in
+    (omega (arith, s .room, s .cards .few), omega (arith, s .room, s .cards .few))
