@@ -29,7 +29,7 @@ use Rattle.shared.proofs.Lists.{same-all}
 use Rattle.shared.proofs.Nets.{new-sound, crash-sound, crash-more, suspect-sound}
 use Rattle.spread.specs.Spread.{SpreadState, lacks, newSpread, relayOn, meetOn, postedBy, postOn, withoutItem, carryOn, crashOn, suspectOn}
 use Rattle.spread.specs.Made.{Underway, brings, SoundSpread, MadeSpread}
-use Rattle.spread.proofs.Rooms.{lacks-parts}
+use Rattle.spread.proofs.Rooms.{lacks-parts, lacks-not, meet-cases}
 
 pub new-made : (n : ℕ) → MadeSpread (newSpread n)
 new-made n =
@@ -75,9 +75,174 @@ relay-sound x p m g r posted h =
     }
 
 meet-sound : (x : SpreadState) (p m : ℕ) → SoundSpread x → Running x p → isSome (posterIn (x .posters) m) ≡ true → SoundSpread (meetOn x p m)
-meet-sound x p m g r posted = cond-both (lacks x p m) (relayOn x p m) x SoundSpread (relay-sound x p m g r posted) (λ _. g)
+meet-sound x p m g r posted = meet-cases SoundSpread x p m (relay-sound x p m g r posted) (λ _. g)
+
+covered : (a b : Bool) → (b ≡ true → a ≡ true) → a ≡ (a || b)
+covered true b f = refl
+covered false true f = f refl
+covered false false f = refl
 
 -- Afterwards it has relayed it.
 pub meet-relays : (x : SpreadState) (p m q k : ℕ) → SoundSpread x → p < x .cards .count → m < 32 → has (setIn (meetOn x p m .relayed) q) k ≡ (has (setIn (x .relayed) q) k || (eqb q p && eqb k m))
-meet-relays x p m q k g l j = ?
+meet-relays x p m q k g l j =
+    meet-cases (λ z. has (setIn (z .relayed) q) k ≡ (has (setIn (x .relayed) q) k || (eqb q p && eqb k m))) x p m
+    (λ h. noted-more (x .relayed) p m q k (omega (arith, g .sets, g .sound .few)) j)
+    (λ h. covered _ _ (λ e. let b = and-parts _ _ e in rw (eqb-true q p (b .0), eqb-true k m (b .1)) (lacks-not x p m l j h)))
 
+-- What was due is due, but for what this card now has.
+abbrev Due : SpreadState → Type 0
+Due x = (p q m : ℕ) → Running x p → Running x q → has (setIn (x .relayed) p) m ≡ true → (has (setIn (x .relayed) q) m || anyOf (brings p q m) (x .wire)) ≡ true
+
+abbrev DueBut : SpreadState → ℕ → ℕ → Type 0
+DueBut x to load = (p q m : ℕ) → Running x p → Running x q → has (setIn (x .relayed) p) m ≡ true → ((has (setIn (x .relayed) q) m || (eqb q to && eqb m load)) || anyOf (brings p q m) (x .wire)) ≡ true
+
+relay-due : (x : SpreadState) (p m : ℕ) → SoundSpread x → Running x p → DueBut x p m → lacks x p m ≡ true → Due (relayOn x p m)
+relay-due x p m g r d h a b k ra rb e =
+    let l = lacks-parts x p m h in
+    let more : (q j : ℕ) → _ = λ q j. noted-more (x .relayed) p m q j (omega (arith, r .0, g .sets, g .sound .few)) (l .1) in
+    let new : List (Item ℕ) = sent (x .cards) p m (x .cards .count) in
+    let old = any-append (brings a b k) (x .wire) new in
+    let here = more b k in
+    ⊎-elim
+    (λ t. let due = d a b k ra rb t in grind (arith, tells, old, here, due))
+    (λ t. let s = and-parts _ _ t in
+    ⊎-elim
+    (λ z. or-left _ _ (here ∙ or-right _ _ (and-from _ _ z (s .1))))
+    (λ z. or-right _ _ (old ∙ or-right _ _ (any-sent (brings a b k) (x .cards) p m (x .cards .count) b (rb .0)
+    (and-from _ _ (not-from-false _ (rb .1)) (not-from-false _ z))
+    (and-from _ _ (eq-eqb p a (sym (eqb-true a p (s .0)))) (and-from _ _ (eq-eqb b b refl) (eq-eqb m k (sym (eqb-true k m (s .1)))))))))
+    (cases-bool (eqb b p)))
+    (or-cases _ _ (sym (more a k) ∙ e))
+
+meet-due : (x : SpreadState) (p m : ℕ) → SoundSpread x → Running x p → m < 32 → DueBut x p m → Due (meetOn x p m)
+meet-due x p m g r j d =
+    meet-cases Due x p m (relay-due x p m g r d)
+    (λ h a b k ra rb e.
+    let has-it : (eqb b p && eqb k m) ≡ true → has (setIn (x .relayed) b) k ≡ true = λ t. let s = and-parts _ _ t in rw (eqb-true b p (s .0), eqb-true k m (s .1)) (lacks-not x p m (r .0) j h) in
+    ap (λ t. t || anyOf (brings a b k) (x .wire)) (covered _ _ has-it) ∙ d a b k ra rb e)
+
+made-due : (x : SpreadState) → MadeSpread x → Due x
+made-due x g p q m rp rq = g .due p q m (rp .0) (rq .0) (rp .1) (rq .1)
+
+made-from : (x : SpreadState) → SoundSpread x → ((m p : ℕ) → posterIn (x .posters) m ≡ Some p → has (setIn (x .relayed) p) m ≡ true) → Due x → MadeSpread x
+made-from x g posters d = record { whole = g; poster-relayed = posters; due = λ p q m hp hq up uq. d p q m (hp, up) (hq, uq) }
+
+-- A post.
+
+posted-sound : (x : SpreadState) (p m : ℕ) → SoundSpread x → p < x .cards .count → m < 32 → SoundSpread (postedBy x p m)
+posted-sound x p m g l j =
+    let w : m < length (x .posters) = omega (arith, g .notes) in
+    let old : (k : ℕ) → isSome (posterIn (x .posters) k) ≡ true → isSome (posterIn (set (x .posters) m (Some p)) k) ≡ true = λ k e. posted-more (x .posters) m p k w ∙ or-right _ _ e in
+    record {
+      sound = g .sound;
+      notes = simp length-set (g .notes);
+      sets = g .sets;
+      posters-cards = poster-each (λ k q. q < x .cards .count) (x .posters) m p w l (g .posters-cards);
+      items = all-weaker (Underway x) (Underway (postedBy x p m)) (λ y u. record { sender = u .sender; card = u .card; up = u .up; posted = old (y .load) (u .posted); by-relayer = u .by-relayer }) (x .wire) (g .items);
+      relayed-posted = λ q k e. old k (g .relayed-posted q k e);
+      outside = g .outside;
+      fits = g .fits;
+    }
+
+pub post-made : (x : SpreadState) (p m : ℕ) → MadeSpread x → p < x .cards .count → crashedIn (x .cards) p ≡ false → m < 32 → MadeSpread (postOn x p m)
+post-made x p m g l up j =
+    let y = postedBy x p m in
+    let w : m < length (x .posters) = omega (arith, g .whole .notes) in
+    let s = posted-sound x p m (g .whole) l j in
+    let more : (q k : ℕ) → _ = λ q k. meet-relays y p m q k s l j in
+    made-from (postOn x p m)
+    (meet-sound y p m s (l, up) (posted-more (x .posters) m p m w ∙ or-left _ _ (eq-eqb m m refl)))
+    (poster-each (λ k q. has (setIn (postOn x p m .relayed) q) k ≡ true) (x .posters) m p w (more p m ∙ or-right _ _ (and-from _ _ (eq-eqb p p refl) (eq-eqb m m refl))) (λ k q e. more q k ∙ or-left _ _ (g .poster-relayed k q e)))
+    (meet-due y p m s (l, up) j (λ a b k ra rb e. let d = made-due x g a b k ra rb e in grind (arith, tells, d)))
+
+-- A carry.
+
+pub removed-sound : (x : SpreadState) (i : ℕ) → SoundSpread x → SoundSpread (withoutItem x i)
+removed-sound x i g =
+    record {
+      sound = g .sound;
+      notes = g .notes;
+      sets = g .sets;
+      posters-cards = g .posters-cards;
+      items = all-weaker (Underway x) (Underway (withoutItem x i)) (λ y u. record { sender = u .sender; card = u .card; up = u .up; posted = u .posted; by-relayer = u .by-relayer }) (removed (x .wire) i) (all-removed (Underway x) (x .wire) i (g .items));
+      relayed-posted = g .relayed-posted;
+      outside = g .outside;
+      fits = g .fits;
+    }
+
+pub item-at : (x : SpreadState) (i : ℕ) (y : Item ℕ) → SoundSpread x → nth (x .wire) i ≡ Some y → Underway x y
+item-at x i y g e = all-nth (Underway x) (x .wire) i y (g .items) e
+
+pub receive-made : (x : SpreadState) (i : ℕ) (y : Item ℕ) → MadeSpread x → nth (x .wire) i ≡ Some y → MadeSpread (meetOn (withoutItem x i) (y .to) (y .load))
+receive-made x i y g e =
+    let u = item-at x i y (g .whole) e in
+    let z = withoutItem x i in
+    let s = removed-sound x i (g .whole) in
+    let j : y .load < 32 = posted-below (x .posters) 32 (y .load) (g .whole .notes) (u .posted) in
+    made-from (meetOn z (y .to) (y .load))
+    (meet-sound z (y .to) (y .load) s (u .card, u .up) (u .posted))
+    (λ m p h. meet-relays z (y .to) (y .load) p m s (u .card) j ∙ or-left _ _ (g .poster-relayed m p h))
+    (meet-due z (y .to) (y .load) s (u .card, u .up) j (λ a b k ra rb h.
+    let d = made-due x g a b k ra rb h in
+    let w = any-split (brings a b k) (x .wire) i y e in
+    taken (has (setIn (x .relayed) b) k) (brings a b k y) (anyOf (brings a b k) (z .wire)) (eqb b (y .to) && eqb k (y .load)) (ap (λ v. has (setIn (x .relayed) b) k || v) (sym w) ∙ d)
+    (λ t. let q = and-parts (eqb (y .to) b) (eqb (y .load) k) (and-parts _ _ t .1) in and-from _ _ (eq-eqb b (y .to) (sym (eqb-true _ _ (q .0)))) (eq-eqb k (y .load) (sym (eqb-true _ _ (q .1)))))))
+  where
+    taken : (h t w now : Bool) → (h || (t || w)) ≡ true → (t ≡ true → now ≡ true) → ((h || now) || w) ≡ true
+    taken true t w now e f = refl
+    taken false true w now e f = or-left _ _ (f refl)
+    taken false false w now e f = or-right _ _ e
+
+-- A loss, a crash, a suspicion.
+
+pub lose-made : (x : SpreadState) (i : ℕ) (y : Item ℕ) → MadeSpread x → nth (x .wire) i ≡ Some y → crashedIn (x .cards) (y .from) ≡ true → MadeSpread (withoutItem x i)
+lose-made x i y g e down =
+    made-from (withoutItem x i) (removed-sound x i (g .whole)) (g .poster-relayed)
+    (λ a b k ra rb h.
+    let d = made-due x g a b k ra rb h in
+    let w = any-split (brings a b k) (x .wire) i y e in
+    let other : brings a b k y ≡ true → ⊥ = λ t. clash (sym (ra .1) ∙ ap (crashedIn (x .cards)) (sym (eqb-true _ _ (and-parts _ _ t .0))) ∙ down) in
+    grind (arith, tells, d, w, other))
+
+pub crash-made : (x : SpreadState) (p : ℕ) → MadeSpread x → p < x .cards .count → MadeSpread (crashOn x p)
+crash-made x p g l =
+    let c = x .cards in
+    let s = g .whole in
+    made-from (crashOn x p)
+    (record {
+      sound = crash-sound c p (s .sound) l;
+      notes = s .notes;
+      sets = s .sets;
+      posters-cards = s .posters-cards;
+      items = all-left (Underway x) (Underway (crashOn x p)) (elsewhere p) (x .wire)
+          (λ y u k. record { sender = u .sender; card = u .card; up = crash-more c p (y .to) (s .sound) l ∙ ap (λ b. b || crashedIn c (y .to)) (not-true _ k) ∙ u .up; posted = u .posted; by-relayer = u .by-relayer }) (s .items);
+      relayed-posted = s .relayed-posted;
+      outside = s .outside;
+      fits = s .fits;
+    })
+    (g .poster-relayed)
+    (λ a b k ra rb h.
+    let va = or-parts _ _ (sym (crash-more c p a (s .sound) l) ∙ ra .1) in
+    let vb = or-parts _ _ (sym (crash-more c p b (s .sound) l) ∙ rb .1) in
+    ⊎-elim
+    (λ d. or-left _ _ d)
+    (λ d. or-right _ _ (any-left (brings a b k) (elsewhere p) (x .wire) (λ y t. not-from-false _ (ne-eqb (y .to) p (λ z. eqb-false b p (vb .0) (sym (eqb-true _ _ (and-parts _ _ (and-parts _ _ t .1) .0)) ∙ z)))) d))
+    (or-cases _ _ (made-due x g a b k (ra .0, va .1) (rb .0, vb .1) h)))
+
+pub suspect-made : (x : SpreadState) (q p : ℕ) → MadeSpread x → q < x .cards .count → p < x .cards .count → crashedIn (x .cards) p ≡ true → MadeSpread (suspectOn x q p)
+suspect-made x q p g hq hp down =
+    let s = g .whole in
+    record {
+      whole = record {
+        sound = suspect-sound (x .cards) q p (s .sound) hq hp down;
+        notes = s .notes;
+        sets = s .sets;
+        posters-cards = s .posters-cards;
+        items = all-weaker (Underway x) (Underway (suspectOn x q p)) (λ y u. record { sender = u .sender; card = u .card; up = u .up; posted = u .posted; by-relayer = u .by-relayer }) (x .wire) (s .items);
+        relayed-posted = s .relayed-posted;
+        outside = s .outside;
+        fits = s .fits;
+      };
+      poster-relayed = g .poster-relayed;
+      due = g .due;
+    }

@@ -28,7 +28,7 @@ use Rattle.spread.specs.Counts.{pairs}
 use Rattle.spread.specs.Spread.{SpreadState, lacks, owes, spreadWork, newSpread, relayOn, meetOn, postedBy, postOn, withoutItem, crashOn, suspectOn}
 use Rattle.spread.specs.Made.{SoundSpread}
 use Rattle.spread.proofs.Pairs.{pairs-none, pairs-le, pairs-lt, pairs-grow}
-use Rattle.spread.proofs.Rooms.{lacks-parts}
+use Rattle.spread.proofs.Rooms.{lacks-parts, meet-cases}
 
 -- A factor for each of fewer, and for each of a few more.
 one-less : (k a b : ℕ) → a < b → k * a + k ≤ k * b
@@ -61,20 +61,20 @@ relay-work x p m six few up posted h =
     let n = x .cards .count in
     let more : (q k : ℕ) → _ = λ q k. noted-more (x .relayed) p m q k (omega (arith, l .0)) (l .1) in
     let less : pairs (owes (relayOn x p m)) n 32 < pairs (owes x) n 32 = pairs-lt (owes (relayOn x p m)) (owes x) n 32 p m
-        (λ q k _ _ t. let a = more q k in grind (arith, tells, a, t)) (l .0) (l .1)
-        (let a = more p m in let b = eq-eqb p p refl in let c = eq-eqb m m refl in grind (arith, tells, a, b, c))
-        (and-from _ _ (not-from-false _ up) (and-from _ _ posted (not-from-false _ (l .2)))) in
+    (λ q k _ _ t. let a = more q k in grind (arith, tells, a, t)) (l .0) (l .1)
+    (let a = more p m in let b = eq-eqb p p refl in let c = eq-eqb m m refl in grind (arith, tells, a, b, c))
+    (and-from _ _ (not-from-false _ up) (and-from _ _ posted (not-from-false _ (l .2)))) in
     omega (arith, one-less (n - 1) _ _ less, length-append (x .wire) (sent (x .cards) p m n), length-sent-others (x .cards) p m n (l .0))
 
 pub meet-work : (x : SpreadState) (p m : ℕ) → SoundSpread x → crashedIn (x .cards) p ≡ false → isSome (posterIn (x .posters) m) ≡ true → spreadWork (meetOn x p m) ≤ spreadWork x
-meet-work x p m g up posted = cond-both (lacks x p m) (relayOn x p m) x (λ z. spreadWork z ≤ spreadWork x) (relay-work x p m (g .sets) (g .sound .few) up posted) (λ _. omega arith)
+meet-work x p m g up posted = meet-cases (λ z. spreadWork z ≤ spreadWork x) x p m (relay-work x p m (g .sets) (g .sound .few) up posted) (λ _. omega arith)
 
 pub posted-work : (x : SpreadState) (p m : ℕ) → SoundSpread x → m < 32 → spreadWork (postedBy x p m) ≤ spreadWork x + 30
 unfolding spreadWork
 posted-work x p m g l =
     let n = x .cards .count in
     let more : pairs (owes (postedBy x p m)) n 32 ≤ pairs (owes x) n 32 + n = pairs-grow (owes (postedBy x p m)) (owes x) n 32 m
-        (λ q k _ _ t. let a = posted-more (x .posters) m p k (omega (arith, g .notes)) in grind (arith, tells, a, t)) in
+    (λ q k _ _ t. let a = posted-more (x .posters) m p k (omega (arith, g .notes)) in grind (arith, tells, a, t)) in
     omega (arith, some-more (n - 1) _ _ n more, at-most-30 n (g .sound .few))
 
 pub removed-work : (x : SpreadState) (i : ℕ) → i < length (x .wire) → spreadWork (withoutItem x i) < spreadWork x
@@ -86,7 +86,7 @@ unfolding spreadWork
 crash-work x p g l =
     let n = x .cards .count in
     let less : pairs (owes (crashOn x p)) n 32 ≤ pairs (owes x) n 32 = pairs-le (owes (crashOn x p)) (owes x) n 32
-        (λ q k _ _ t. let a = crash-more (x .cards) p q (g .sound) l in grind (arith, tells, a, t)) in
+    (λ q k _ _ t. let a = crash-more (x .cards) p q (g .sound) l in grind (arith, tells, a, t)) in
     omega (arith, mul-le-mul-left (n - 1) less, length-left (elsewhere p) (x .wire))
 
 pub suspect-work : (x : SpreadState) (q p : ℕ) → spreadWork (suspectOn x q p) ≡ spreadWork x

@@ -49,7 +49,13 @@ relayOn x p m = record { cards = x .cards; posters = x .posters; relayed = withN
 
 -- Card p meets note m: it relays it, unless it has done so before.
 abbrev pub meetOn : SpreadState → ℕ → ℕ → SpreadState
-meetOn x p m = cond (lacks x p m) (relayOn x p m) x
+meetOn x p m =
+    record {
+      cards = x .cards;
+      posters = x .posters;
+      relayed = cond (lacks x p m) (relayOn x p m .relayed) (x .relayed);
+      wire = cond (lacks x p m) (relayOn x p m .wire) (x .wire);
+    }
 
 -- The poster meets its note by posting it.
 abbrev pub postedBy : SpreadState → ℕ → ℕ → SpreadState

@@ -8,6 +8,7 @@ use Rattle.spread.proofs.state.Spread.is_quiet.Needs as need
 pub returns-then-len-eq0 : need.returns-then-len-eq0
 returns-then-len-eq0 c =
     let x = spreadOf (c .args .self .now) in
-    let l = sym (c .len .ensures .senders) ∙ c .if-len-eq0 .taken in
-    (λ t. quiet-when (x .cards) (senders (x .wire)) (spreadWork x) (nil-from-length _ l) (c .all-suspected .ensures .0 t),
-     λ q. c .all-suspected .ensures .1 (suspected-when (x .cards) (senders (x .wire)) (spreadWork x) q))
+    let l = sym (c .len .ensures .senders) ∙ c .if-len-eq0 .taken in (
+      λ t. quiet-when (x .cards) (senders (x .wire)) (spreadWork x) (nil-from-length _ l) (c .all-suspected .ensures .0 t),
+      λ q. c .all-suspected .ensures .1 (suspected-when (x .cards) (senders (x .wire)) (spreadWork x) q),
+    )
