@@ -1,9 +1,9 @@
 -- What a post, a hand-over and a carry change in the tables of a part.
 use mathlib.Core.Path.{_≡_, refl, sym, ap, subst, _∙_}
 use mathlib.Core.Bool.{Bool, true, false, cond, _||_, _&&_}
-use mathlib.Core.List.{List, []}
+use mathlib.Core.List.{List, [], _∷_}
 use mathlib.Core.Logic.{⊎-elim}
-use Prim.Native.Nat.{ℕ, _^_, _≤_, _<_}
+use Prim.Native.Nat.{ℕ, zero, suc, _^_, _≤_, _<_}
 use native.Mathlib.Omega.{arith}
 use borrow.Author.Tests.{clash}
 use lib.Bits.{bitOr, or-lt}
@@ -12,6 +12,7 @@ use lib.ListN.{length, set}
 use lib.Pow.{pow-lt}
 use lib.Seq.{getD-set-other}
 use Rattle.std.specs.Finite.{nth}
+use Rattle.std.specs.Holes.{removed}
 use Rattle.std.specs.Options.{isSome}
 use Rattle.std.specs.declared.option.Option.{Option}
 use Rattle.std.specs.declared.option.Option.the-variants.{Some, None}
@@ -20,15 +21,15 @@ use Rattle.std.proofs.shelf.Tests.{cases-bool, cases-lt, cond-true, cond-false,
 use Rattle.std.proofs.shelf.Ways.{tells}
 use Rattle.notes.specs.Sets.{has, added}
 use Rattle.notes.proofs.Bits.{has-added}
-use Rattle.parts.specs.Refusals.{carryAnswer}
-use Rattle.parts.proofs.Accepted.{carry-accepted}
+use Rattle.parts.specs.Refusals.{carryAnswer, loseAnswer}
+use Rattle.parts.proofs.Accepted.{carry-accepted, lose-accepted}
 use Rattle.parts.proofs.Options.{some-held}
-use Rattle.shared.specs.Cards.{CardState, netOf}
+use Rattle.shared.specs.Cards.{CardState, crashedIn, netOf}
 use Rattle.shared.specs.Tables.{posterIn, setIn, withNote}
 use Rattle.shared.specs.Wires.{senders}
 use Rattle.shared.specs.declared.wire.Item.{Item}
 use Rattle.shared.proofs.Lists.{written}
-use Rattle.shared.proofs.Wires.{nth-there, length-senders}
+use Rattle.shared.proofs.Wires.{nth-there, length-senders, sender-at}
 
 -- Who has posted, after one post more.
 pub posted-more : (t : List (Option ℕ)) (m p k : ℕ) → m < length t → isSome (posterIn (set t m (Some p)) k) ≡ (eqb k m || isSome (posterIn t k))
@@ -72,6 +73,19 @@ noted-fits t p m q h f = rw (written t p q (added (setIn t p) m) 0 h) (cond-both
 pub carried-item : {P : Type 0} (c : CardState) (xs : List (Item P)) (k i : ℕ) → carryAnswer (netOf c (senders xs) k) i ≡ 0 → (y : Item P) × (nth xs i ≡ Some y)
 carried-item c xs k i h =
     some-held (nth xs i) (nth-there xs i ∙ lt-ltb i (length xs) (omega (arith, carry-accepted (netOf c (senders xs) k) i h, length-senders xs)))
+
+-- The item that an accepted loss takes, and its sender.
+pub lost-item : {P : Type 0} (c : CardState) (xs : List (Item P)) (k i : ℕ) → loseAnswer (netOf c (senders xs) k) i ≡ 0 → (y : Item P) × (nth xs i ≡ Some y) × (crashedIn c (y .from) ≡ true)
+lost-item c xs k i h =
+    let f = lose-accepted (netOf c (senders xs) k) i h in
+    let t = some-held (nth xs i) (nth-there xs i ∙ lt-ltb i (length xs) (omega (arith, f .0, length-senders xs))) in
+    (t .0, t .1, ap (crashedIn c) (sender-at xs i (Some (t .0)) (t .1) .2) ∙ f .1)
+
+pub senders-removed : {P : Type 0} (xs : List (Item P)) (i : ℕ) → senders (removed xs i) ≡ removed (senders xs) i
+senders-removed [] zero = refl
+senders-removed [] (suc i) = refl
+senders-removed (x ∷ xs) zero = refl
+senders-removed (x ∷ xs) (suc i) = ap (λ l. x .from ∷ l) (senders-removed xs i)
 
 pub nothing-left : {P : Type 0} (xs : List (Item P)) → senders xs ≡ [] → xs ≡ []
 nothing-left xs e = nil-from-length xs (sym (length-senders xs) ∙ ap length e)

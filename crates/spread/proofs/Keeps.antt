@@ -129,7 +129,7 @@ made-from x g posters d = record { whole = g; poster-relayed = posters; due = λ
 
 -- A post.
 
-posted-sound : (x : SpreadState) (p m : ℕ) → SoundSpread x → p < x .cards .count → m < 32 → SoundSpread (postedBy x p m)
+pub posted-sound : (x : SpreadState) (p m : ℕ) → SoundSpread x → p < x .cards .count → m < 32 → SoundSpread (postedBy x p m)
 posted-sound x p m g l j =
     let w : m < length (x .posters) = omega (arith, g .notes) in
     let old : (k : ℕ) → isSome (posterIn (x .posters) k) ≡ true → isSome (posterIn (set (x .posters) m (Some p)) k) ≡ true = λ k e. posted-more (x .posters) m p k w ∙ or-right _ _ e in

@@ -2,3 +2,4 @@ pub mod Pairs
 pub mod Rooms
 pub mod Works
 pub mod Keeps
+pub mod Nets
