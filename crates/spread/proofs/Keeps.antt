@@ -89,42 +89,72 @@ meet-relays x p m q k g l j =
     (λ h. noted-more (x .relayed) p m q k (omega (arith, g .sets, g .sound .few)) j)
     (λ h. covered _ _ (λ e. let b = and-parts _ _ e in rw (eqb-true q p (b .0), eqb-true k m (b .1)) (lacks-not x p m l j h)))
 
--- What was due is due, but for what this card now has.
-abbrev Due : SpreadState → Type 0
-Due x = (p q m : ℕ) → Running x p → Running x q → has (setIn (x .relayed) p) m ≡ true → (has (setIn (x .relayed) q) m || anyOf (brings p q m) (x .wire)) ≡ true
+-- What a running card has relayed has got to each running card, or is on its way there: `got p q m` says what it means to have got from p to q.
+abbrev pub Delivers : (ℕ → ℕ → ℕ → Bool) → SpreadState → Type 0
+Delivers got x = (p q m : ℕ) → Running x p → Running x q → has (setIn (x .relayed) p) m ≡ true → (got p q m || anyOf (brings p q m) (x .wire)) ≡ true
 
-abbrev DueBut : SpreadState → ℕ → ℕ → Type 0
-DueBut x to load = (p q m : ℕ) → Running x p → Running x q → has (setIn (x .relayed) p) m ≡ true → ((has (setIn (x .relayed) q) m || (eqb q to && eqb m load)) || anyOf (brings p q m) (x .wire)) ≡ true
+module _ (got : ℕ → ℕ → ℕ → Bool) (x : SpreadState) where
+  relay-delivers : (p m : ℕ) → SoundSpread x → Running x p → got p p m ≡ true → Delivers got x → lacks x p m ≡ true → Delivers got (relayOn x p m)
+  relay-delivers p m g r own d h a b k ra rb e =
+      let l = lacks-parts x p m h in
+      let old = any-append (brings a b k) (x .wire) (sent (x .cards) p m (x .cards .count)) in
+      ⊎-elim
+      (λ t. let due = d a b k ra rb t in grind (arith, tells, old, due))
+      (λ t. let s = and-parts _ _ t in
+      let ea = eqb-true a p (s .0) in
+      let ek = eqb-true k m (s .1) in
+      ⊎-elim
+      (λ z. let o : got a b k ≡ true = rw (ea, ek, eqb-true b p z) own in or-left _ _ o)
+      (λ z. or-right _ _ (old ∙ or-right _ _ (any-sent (brings a b k) (x .cards) p m (x .cards .count) b (rb .0)
+          (and-from _ _ (not-from-false _ (rb .1)) (not-from-false _ z))
+          (and-from _ _ (eq-eqb p a (sym ea)) (and-from _ _ (eq-eqb b b refl) (eq-eqb m k (sym ek)))))))
+      (cases-bool (eqb b p)))
+      (or-cases _ _ (sym (noted-more (x .relayed) p m a k (omega (arith, r .0, g .sets, g .sound .few)) (l .1)) ∙ e))
 
-relay-due : (x : SpreadState) (p m : ℕ) → SoundSpread x → Running x p → DueBut x p m → lacks x p m ≡ true → Due (relayOn x p m)
-relay-due x p m g r d h a b k ra rb e =
-    let l = lacks-parts x p m h in
-    let more : (q j : ℕ) → _ = λ q j. noted-more (x .relayed) p m q j (omega (arith, r .0, g .sets, g .sound .few)) (l .1) in
-    let new : List (Item ℕ) = sent (x .cards) p m (x .cards .count) in
-    let old = any-append (brings a b k) (x .wire) new in
-    let here = more b k in
-    ⊎-elim
-    (λ t. let due = d a b k ra rb t in grind (arith, tells, old, here, due))
-    (λ t. let s = and-parts _ _ t in
-    ⊎-elim
-    (λ z. or-left _ _ (here ∙ or-right _ _ (and-from _ _ z (s .1))))
-    (λ z. or-right _ _ (old ∙ or-right _ _ (any-sent (brings a b k) (x .cards) p m (x .cards .count) b (rb .0)
-    (and-from _ _ (not-from-false _ (rb .1)) (not-from-false _ z))
-    (and-from _ _ (eq-eqb p a (sym (eqb-true a p (s .0)))) (and-from _ _ (eq-eqb b b refl) (eq-eqb m k (sym (eqb-true k m (s .1)))))))))
-    (cases-bool (eqb b p)))
-    (or-cases _ _ (sym (more a k) ∙ e))
+  pub meet-delivers : (p m : ℕ) → SoundSpread x → Running x p → got p p m ≡ true → Delivers got x → Delivers got (meetOn x p m)
+  meet-delivers p m g r own d = meet-cases (Delivers got) x p m (relay-delivers p m g r own d) (λ _. d)
 
-meet-due : (x : SpreadState) (p m : ℕ) → SoundSpread x → Running x p → m < 32 → DueBut x p m → Due (meetOn x p m)
-meet-due x p m g r j d =
-    meet-cases Due x p m (relay-due x p m g r d)
-    (λ h a b k ra rb e.
-    let has-it : (eqb b p && eqb k m) ≡ true → has (setIn (x .relayed) b) k ≡ true = λ t. let s = and-parts _ _ t in rw (eqb-true b p (s .0), eqb-true k m (s .1)) (lacks-not x p m (r .0) j h) in
-    ap (λ t. t || anyOf (brings a b k) (x .wire)) (covered _ _ has-it) ∙ d a b k ra rb e)
+  pub more-delivers : (more : ℕ → ℕ → ℕ → Bool) → ((p q m : ℕ) → got p q m ≡ true → more p q m ≡ true) → Delivers got x → Delivers more x
+  more-delivers more still d a b k ra rb h =
+      ⊎-elim (λ t. or-left (more a b k) (anyOf (brings a b k) (x .wire)) (still a b k t)) (λ t. or-right (more a b k) (anyOf (brings a b k) (x .wire)) t) (or-cases (got a b k) (anyOf (brings a b k) (x .wire)) (d a b k ra rb h))
 
-made-due : (x : SpreadState) → MadeSpread x → Due x
+  -- An item that is carried has got there.
+  pub taken-delivers : (more : ℕ → ℕ → ℕ → Bool) (i : ℕ) (y : Item ℕ) → nth (x .wire) i ≡ Some y → ((p q m : ℕ) → got p q m ≡ true → more p q m ≡ true) → more (y .from) (y .to) (y .load) ≡ true → Delivers got x → Delivers more (withoutItem x i)
+  taken-delivers more i y e still there d a b k ra rb h =
+      ⊎-elim
+      (λ t. or-left _ _ (still a b k t))
+      (λ t. ⊎-elim
+      (λ z. let s = and-parts (eqb (y .from) a) _ z in let q = and-parts (eqb (y .to) b) (eqb (y .load) k) (s .1) in
+      let o : more a b k ≡ true = rw (sym (eqb-true _ _ (s .0)), sym (eqb-true _ _ (q .0)), sym (eqb-true _ _ (q .1))) there in or-left _ _ o)
+      (λ z. or-right _ _ z)
+      (or-cases _ _ (sym (any-split (brings a b k) (x .wire) i y e) ∙ t)))
+      (or-cases _ _ (d a b k ra rb h))
+
+  -- An item of a crashed card may be lost.
+  pub lost-delivers : (i : ℕ) (y : Item ℕ) → nth (x .wire) i ≡ Some y → crashedIn (x .cards) (y .from) ≡ true → Delivers got x → Delivers got (withoutItem x i)
+  lost-delivers i y e down d a b k ra rb h =
+      let due = d a b k ra rb h in
+      let w = any-split (brings a b k) (x .wire) i y e in
+      let other : brings a b k y ≡ true → ⊥ = λ t. clash (sym (ra .1) ∙ ap (crashedIn (x .cards)) (sym (eqb-true _ _ (and-parts _ _ t .0))) ∙ down) in
+      grind (arith, tells, due, w, other)
+
+  pub crash-delivers : (p : ℕ) → SoundSpread x → p < x .cards .count → Delivers got x → Delivers got (crashOn x p)
+  crash-delivers p g l d a b k ra rb h =
+      let va = or-parts _ _ (sym (crash-more (x .cards) p a (g .sound) l) ∙ ra .1) in
+      let vb = or-parts _ _ (sym (crash-more (x .cards) p b (g .sound) l) ∙ rb .1) in
+      ⊎-elim
+      (λ t. or-left _ _ t)
+      (λ t. or-right _ _ (any-left (brings a b k) (elsewhere p) (x .wire) (λ y z. not-from-false _ (ne-eqb (y .to) p (λ e. eqb-false b p (vb .0) (sym (eqb-true _ _ (and-parts _ _ (and-parts _ _ z .1) .0)) ∙ e)))) t))
+      (or-cases _ _ (d a b k (ra .0, va .1) (rb .0, vb .1) h))
+
+-- In a spread, to have got a note is to have relayed it.
+abbrev relayedTo : SpreadState → ℕ → ℕ → ℕ → Bool
+relayedTo x p q m = has (setIn (x .relayed) q) m
+
+made-due : (x : SpreadState) → MadeSpread x → Delivers (relayedTo x) x
 made-due x g p q m rp rq = g .due p q m (rp .0) (rq .0) (rp .1) (rq .1)
 
-made-from : (x : SpreadState) → SoundSpread x → ((m p : ℕ) → posterIn (x .posters) m ≡ Some p → has (setIn (x .relayed) p) m ≡ true) → Due x → MadeSpread x
+made-from : (x : SpreadState) → SoundSpread x → ((m p : ℕ) → posterIn (x .posters) m ≡ Some p → has (setIn (x .relayed) p) m ≡ true) → Delivers (relayedTo x) x → MadeSpread x
 made-from x g posters d = record { whole = g; poster-relayed = posters; due = λ p q m hp hq up uq. d p q m (hp, up) (hq, uq) }
 
 -- A post.
@@ -150,10 +180,12 @@ post-made x p m g l up j =
     let w : m < length (x .posters) = omega (arith, g .whole .notes) in
     let s = posted-sound x p m (g .whole) l j in
     let more : (q k : ℕ) → _ = λ q k. meet-relays y p m q k s l j in
+    let own : (has (setIn (x .relayed) p) m || (eqb p p && eqb m m)) ≡ true = or-right _ _ (and-from _ _ (eq-eqb p p refl) (eq-eqb m m refl)) in
     made-from (postOn x p m)
     (meet-sound y p m s (l, up) (posted-more (x .posters) m p m w ∙ or-left _ _ (eq-eqb m m refl)))
-    (poster-each (λ k q. has (setIn (postOn x p m .relayed) q) k ≡ true) (x .posters) m p w (more p m ∙ or-right _ _ (and-from _ _ (eq-eqb p p refl) (eq-eqb m m refl))) (λ k q e. more q k ∙ or-left _ _ (g .poster-relayed k q e)))
-    (meet-due y p m s (l, up) j (λ a b k ra rb e. let d = made-due x g a b k ra rb e in grind (arith, tells, d)))
+    (poster-each (λ k q. has (setIn (postOn x p m .relayed) q) k ≡ true) (x .posters) m p w (more p m ∙ own) (λ k q e. more q k ∙ or-left _ _ (g .poster-relayed k q e)))
+    (meet-delivers (relayedTo (postOn x p m)) y p m s (l, up) (more p m ∙ own)
+    (more-delivers (relayedTo x) x (relayedTo (postOn x p m)) (λ _ q k h. more q k ∙ or-left _ _ h) (made-due x g)))
 
 -- A carry.
 
@@ -179,30 +211,20 @@ receive-made x i y g e =
     let z = withoutItem x i in
     let s = removed-sound x i (g .whole) in
     let j : y .load < 32 = posted-below (x .posters) 32 (y .load) (g .whole .notes) (u .posted) in
-    made-from (meetOn z (y .to) (y .load))
+    let more : (q k : ℕ) → _ = λ q k. meet-relays z (y .to) (y .load) q k s (u .card) j in
+    let own : (has (setIn (x .relayed) (y .to)) (y .load) || (eqb (y .to) (y .to) && eqb (y .load) (y .load))) ≡ true = or-right _ _ (and-from _ _ (eq-eqb (y .to) (y .to) refl) (eq-eqb (y .load) (y .load) refl)) in
+    let after = meetOn z (y .to) (y .load) in
+    made-from after
     (meet-sound z (y .to) (y .load) s (u .card, u .up) (u .posted))
-    (λ m p h. meet-relays z (y .to) (y .load) p m s (u .card) j ∙ or-left _ _ (g .poster-relayed m p h))
-    (meet-due z (y .to) (y .load) s (u .card, u .up) j (λ a b k ra rb h.
-    let d = made-due x g a b k ra rb h in
-    let w = any-split (brings a b k) (x .wire) i y e in
-    taken (has (setIn (x .relayed) b) k) (brings a b k y) (anyOf (brings a b k) (z .wire)) (eqb b (y .to) && eqb k (y .load)) (ap (λ v. has (setIn (x .relayed) b) k || v) (sym w) ∙ d)
-    (λ t. let q = and-parts (eqb (y .to) b) (eqb (y .load) k) (and-parts _ _ t .1) in and-from _ _ (eq-eqb b (y .to) (sym (eqb-true _ _ (q .0)))) (eq-eqb k (y .load) (sym (eqb-true _ _ (q .1)))))))
-  where
-    taken : (h t w now : Bool) → (h || (t || w)) ≡ true → (t ≡ true → now ≡ true) → ((h || now) || w) ≡ true
-    taken true t w now e f = refl
-    taken false true w now e f = or-left _ _ (f refl)
-    taken false false w now e f = or-right _ _ e
+    (λ m p h. more p m ∙ or-left _ _ (g .poster-relayed m p h))
+    (meet-delivers (relayedTo after) z (y .to) (y .load) s (u .card, u .up) (more (y .to) (y .load) ∙ own)
+    (taken-delivers (relayedTo x) x (relayedTo after) i y e (λ _ q m h. more q m ∙ or-left _ _ h) (more (y .to) (y .load) ∙ own) (made-due x g)))
 
 -- A loss, a crash, a suspicion.
 
 pub lose-made : (x : SpreadState) (i : ℕ) (y : Item ℕ) → MadeSpread x → nth (x .wire) i ≡ Some y → crashedIn (x .cards) (y .from) ≡ true → MadeSpread (withoutItem x i)
 lose-made x i y g e down =
-    made-from (withoutItem x i) (removed-sound x i (g .whole)) (g .poster-relayed)
-    (λ a b k ra rb h.
-    let d = made-due x g a b k ra rb h in
-    let w = any-split (brings a b k) (x .wire) i y e in
-    let other : brings a b k y ≡ true → ⊥ = λ t. clash (sym (ra .1) ∙ ap (crashedIn (x .cards)) (sym (eqb-true _ _ (and-parts _ _ t .0))) ∙ down) in
-    grind (arith, tells, d, w, other))
+    made-from (withoutItem x i) (removed-sound x i (g .whole)) (g .poster-relayed) (lost-delivers (relayedTo x) x i y e down (made-due x g))
 
 pub crash-made : (x : SpreadState) (p : ℕ) → MadeSpread x → p < x .cards .count → MadeSpread (crashOn x p)
 crash-made x p g l =
@@ -221,13 +243,7 @@ crash-made x p g l =
       fits = s .fits;
     })
     (g .poster-relayed)
-    (λ a b k ra rb h.
-    let va = or-parts _ _ (sym (crash-more c p a (s .sound) l) ∙ ra .1) in
-    let vb = or-parts _ _ (sym (crash-more c p b (s .sound) l) ∙ rb .1) in
-    ⊎-elim
-    (λ d. or-left _ _ d)
-    (λ d. or-right _ _ (any-left (brings a b k) (elsewhere p) (x .wire) (λ y t. not-from-false _ (ne-eqb (y .to) p (λ z. eqb-false b p (vb .0) (sym (eqb-true _ _ (and-parts _ _ (and-parts _ _ t .1) .0)) ∙ z)))) d))
-    (or-cases _ _ (made-due x g a b k (ra .0, va .1) (rb .0, vb .1) h)))
+    (crash-delivers (relayedTo x) x p s l (made-due x g))
 
 pub suspect-made : (x : SpreadState) (q p : ℕ) → MadeSpread x → q < x .cards .count → p < x .cards .count → crashedIn (x .cards) p ≡ true → MadeSpread (suspectOn x q p)
 suspect-made x q p g hq hp down =
