@@ -106,8 +106,8 @@ module _ (got : ℕ → ℕ → ℕ → Bool) (x : SpreadState) where
       ⊎-elim
       (λ z. let o : got a b k ≡ true = rw (ea, ek, eqb-true b p z) own in or-left _ _ o)
       (λ z. or-right _ _ (old ∙ or-right _ _ (any-sent (brings a b k) (x .cards) p m (x .cards .count) b (rb .0)
-          (and-from _ _ (not-from-false _ (rb .1)) (not-from-false _ z))
-          (and-from _ _ (eq-eqb p a (sym ea)) (and-from _ _ (eq-eqb b b refl) (eq-eqb m k (sym ek)))))))
+      (and-from _ _ (not-from-false _ (rb .1)) (not-from-false _ z))
+      (and-from _ _ (eq-eqb p a (sym ea)) (and-from _ _ (eq-eqb b b refl) (eq-eqb m k (sym ek)))))))
       (cases-bool (eqb b p)))
       (or-cases _ _ (sym (noted-more (x .relayed) p m a k (omega (arith, r .0, g .sets, g .sound .few)) (l .1)) ∙ e))
 
