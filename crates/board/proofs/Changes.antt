@@ -11,7 +11,6 @@ use lib.Dec.{eqb, ltb}
 use lib.ListN.{length, getD, set}
 use lib.Pow.{pow-lt}
 use lib.Seq.{getD-set-same, getD-set-other}
-use Rattle.std.specs.Finite.{nth}
 use Rattle.std.specs.Options.{isSome}
 use Rattle.std.specs.shelf.Lists.{All}
 use Rattle.std.specs.declared.option.Option.{Option}
@@ -21,15 +20,11 @@ use Rattle.std.proofs.shelf.Tests.{cases-eq, cases-lt, cond-both, and-from, ne-
 use Rattle.std.proofs.shelf.Ways.{tells}
 use Rattle.notes.specs.Sets.{has, added}
 use Rattle.notes.proofs.Bits.{has-added}
-use Rattle.parts.specs.Refusals.{carryAnswer}
-use Rattle.parts.proofs.Accepted.{carry-accepted}
-use Rattle.parts.proofs.Options.{some-held}
-use Rattle.shared.specs.Cards.{CardState, crashedIn, netOf}
+use Rattle.shared.specs.Cards.{CardState, crashedIn}
 use Rattle.shared.specs.Tables.{posterIn, setIn, withNote}
 use Rattle.shared.specs.Wires.{goesTo, senders}
 use Rattle.shared.specs.declared.wire.Item.{Item}
 use Rattle.shared.proofs.Lists.{written}
-use Rattle.shared.proofs.Wires.{nth-there, length-senders}
 
 -- Who has posted, after one post more.
 pub posted-more : (t : List (Option ℕ)) (m p k : ℕ) → m < length t → isSome (posterIn (set t m (Some p)) k) ≡ (eqb k m || isSome (posterIn t k))
@@ -64,11 +59,6 @@ added-fits s m h = cond-both (ltb m 32) (bitOr s (2 ^ m)) s (λ z. z < 2 ^ 32) (
 
 pub handed-fits : (t : List ℕ) (q m p : ℕ) → q < length t → ((r : ℕ) → setIn t r < 2 ^ 32) → setIn (withNote t q m) p < 2 ^ 32
 handed-fits t q m p h f = rw (written t q p (added (setIn t q) m) 0 h) (cond-both (eqb p q) (added (setIn t q) m) (setIn t p) (λ z. z < 2 ^ 32) (λ _. added-fits (setIn t q) m (f q)) (λ _. f p))
-
--- The item that an accepted carry takes.
-pub carried-item : (c : CardState) (xs : List (Item ℕ)) (k i : ℕ) → carryAnswer (netOf c (senders xs) k) i ≡ 0 → (y : Item ℕ) × (nth xs i ≡ Some y)
-carried-item c xs k i h =
-    some-held (nth xs i) (nth-there xs i ∙ lt-ltb i (length xs) (omega (arith, carry-accepted (netOf c (senders xs) k) i h, length-senders xs)))
 
 -- The sender of an item that the carrier sent.
 pub carrier-sends : (xs : List (Item ℕ)) (i : ℕ) → All (λ y. y .from ≡ 7) xs → getD (senders xs) i 7 ≡ 7

@@ -28,9 +28,10 @@ use Rattle.shared.specs.declared.wire.Item.{Item}
 use Rattle.shared.proofs.Items.{all-removed, all-nth, all-left, all-sent-are, any-append, any-split, any-left, any-sent}
 use Rattle.shared.proofs.Lists.{written, same-all}
 use Rattle.shared.proofs.Nets.{new-sound, crash-sound, crash-more, suspect-sound}
+use Rattle.shared.proofs.Taken.{carried-item}
 use Rattle.board.specs.Board.{BoardState, seen, newBoard, postOn, carryOn, crashOn, suspectOn}
 use Rattle.board.specs.Made.{Underway, brings, MadeBoard}
-use Rattle.board.proofs.Changes.{posted-more, posted-below, goes-to-running, handed-more, handed-others-stay, handed-fits, carried-item, carrier-sends}
+use Rattle.board.proofs.Changes.{posted-more, posted-below, goes-to-running, handed-more, handed-others-stay, handed-fits, carrier-sends}
 
 pub new-made : (n : ℕ) → MadeBoard (newBoard n)
 new-made n =

@@ -23,7 +23,7 @@ use Rattle.notes.proofs.Bits.{same-sets}
 use Rattle.parts.specs.Views.{BroadcastView, Runs, Quiet}
 use Rattle.parts.specs.Refusals.{postAnswer, carryAnswer, loseAnswer, crashAnswer, suspectAnswer}
 use Rattle.parts.specs.Broadcasting.{Started, HandedMore, Posted, Carried, Lost, Crashed, Suspected, Lawful, UniformAgreement}
-use Rattle.parts.proofs.Accepted.{post-accepted, carry-accepted, crash-accepted, suspect-accepted}
+use Rattle.parts.proofs.Accepted.{post-accepted, crash-accepted, suspect-accepted}
 use Rattle.shared.specs.Cards.{crashedIn, AllSuspected}
 use Rattle.shared.specs.Tables.{posterIn, setIn, withNote}
 use Rattle.shared.specs.Wires.{senders, sent, elsewhere, withoutTo, anyOf}
@@ -32,9 +32,10 @@ use Rattle.shared.proofs.Items.{all-nth, part-left, length-left}
 use Rattle.shared.proofs.Lists.{written, same-all}
 use Rattle.shared.proofs.Nets.{new-net, same-cards, net-crashed, net-suspected, lawful-net, quiet-when, suspected-when}
 use Rattle.shared.proofs.Wires.{length-sent, length-senders}
+use Rattle.shared.proofs.Taken.{carried-item}
 use Rattle.board.specs.Board.{BoardState, seen, newBoard, postOn, carryOn, loseOn, crashOn, suspectOn}
 use Rattle.board.specs.Made.{Underway, brings, MadeBoard}
-use Rattle.board.proofs.Changes.{posted-below, handed-more, handed-others-stay, carried-item}
+use Rattle.board.proofs.Changes.{posted-below, handed-more, handed-others-stay}
 use Rattle.board.proofs.Keeps.{none-lost}
 
 same-sets-handed : (v w : BroadcastView) → w .handed ≡ v .handed → HandedMore v w
@@ -71,7 +72,7 @@ carried-means x i y g e l =
 pub carry-means : (x : BoardState) (i : ℕ) → MadeBoard x → carryAnswer (seen x .net) i ≡ 0 → Carried (seen x) (seen (carryOn x i))
 carry-means x i g h =
     let t = carried-item (x .cards) (x .wire) (length (x .wire)) i h in
-    rw (t .1) (carried-means x i (t .0) g (t .1) (omega (arith, carry-accepted (seen x .net) i h, length-senders (x .wire))))
+    rw (t .1) (carried-means x i (t .0) g (t .1) (t .2))
 
 pub lose-means : (x : BoardState) (i : ℕ) → MadeBoard x → loseAnswer (seen x .net) i ≡ 0 → Lost (seen x) (seen (loseOn x i)) i
 lose-means x i g h = absurd (none-lost x i g h)

@@ -14,15 +14,15 @@ use Rattle.notes.proofs.Bits.{same-sets}
 use Rattle.parts.specs.Views.{Runs, Quiet}
 use Rattle.parts.specs.Refusals.{postAnswer, carryAnswer, loseAnswer, crashAnswer, suspectAnswer}
 use Rattle.parts.specs.Broadcasting.{Started, HandedMore, Posted, Carried, Lost, Crashed, Suspected, Lawful}
-use Rattle.parts.proofs.Accepted.{post-accepted, carry-accepted, lose-accepted, crash-accepted, suspect-accepted}
+use Rattle.parts.proofs.Accepted.{post-accepted, crash-accepted, suspect-accepted}
 use Rattle.shared.specs.Cards.{crashedIn}
 use Rattle.shared.specs.Tables.{setIn}
 use Rattle.shared.specs.Wires.{anyOf}
 use Rattle.shared.specs.declared.wire.Item.{Item}
-use Rattle.shared.proofs.Changes.{posted-below, carried-item, lost-item, nothing-left, bool-same}
+use Rattle.shared.proofs.Changes.{posted-below, nothing-left, bool-same}
 use Rattle.shared.proofs.Lists.{written, same-all}
 use Rattle.shared.proofs.Nets.{same-cards}
-use Rattle.shared.proofs.Wires.{length-senders}
+use Rattle.shared.proofs.Taken.{carried-item, lost-item}
 use Rattle.spread.specs.Spread.{SpreadState, spreadWork, newSpread, meetOn, postedBy, postOn, withoutItem, carryOn, crashOn, suspectOn}
 use Rattle.spread.specs.Made.{brings, SoundSpread, MadeSpread}
 use Rattle.spread.proofs.Keeps as keeps
@@ -33,11 +33,11 @@ pub new-means : (n : ℕ) → Started n (seen (newSpread n))
 new-means n = record { net = new-spread-net n; nothing-posted = λ m. same-all 32 m None; nothing-handed = λ p. same-all 6 p 0 }
 
 -- A card that meets a note is handed it.
-meet-hands : (x y : SpreadState) (p m : ℕ) → SoundSpread x → x .relayed ≡ y .relayed → ((q : ℕ) → crashedIn (y .cards) q ≡ crashedIn (x .cards) q) → p < x .cards .count → crashedIn (x .cards) p ≡ false → m < 32 → HandedMore (seen y) (seen (meetOn x p m))
+meet-hands : (x y : SpreadState) (p m : ℕ) → SoundSpread x → x .relayed ≡ y .relayed → y .cards ≡ x .cards → p < x .cards .count → crashedIn (x .cards) p ≡ false → m < 32 → HandedMore (seen y) (seen (meetOn x p m))
 meet-hands x y p m g e same l up j =
     record {
       nothing-taken-out = λ q k h. keeps.meet-relays x p m q k g l j ∙ or-left _ _ (ap (λ t. has (setIn t q) k) e ∙ h);
-      crashed-sets-stay = λ q h. meet-others-stay x p m q (λ z. both-ways _ (same q ∙ ap (crashedIn (x .cards)) z ∙ up) h) ∙ ap (λ t. setIn t q) e;
+      crashed-sets-stay = λ q h. meet-others-stay x p m q (λ z. both-ways _ (ap (λ c. crashedIn c q) same ∙ ap (crashedIn (x .cards)) z ∙ up) h) ∙ ap (λ t. setIn t q) e;
     }
 
 pub post-made : (x : SpreadState) (p m : ℕ) → MadeSpread x → postAnswer (seen x) p m ≡ 0 → MadeSpread (postOn x p m)
@@ -50,7 +50,7 @@ post-means x p m g h =
       same-cards = same-cards (x .cards) _ _ _ _;
       work-rises-by-bound = post-net x p m (g .whole) (f .0) (f .1) (f .2);
       post-stands = λ j. written (x .posters) m j (Some p) None (omega (arith, g .whole .notes, f .2));
-      handed-more = meet-hands (postedBy x p m) x p m (keeps.posted-sound x p m (g .whole) (f .0) (f .2)) refl (λ q. refl) (f .0) (f .1) (f .2);
+      handed-more = meet-hands (postedBy x p m) x p m (keeps.posted-sound x p m (g .whole) (f .0) (f .2)) refl refl (f .0) (f .1) (f .2);
     }
 
 pub carry-made : (x : SpreadState) (i : ℕ) → MadeSpread x → carryAnswer (seen x .net) i ≡ 0 → MadeSpread (carryOn x i)
@@ -62,20 +62,20 @@ receive-means x i y g e l =
     record {
       net = receive-net x i y g e l;
       posters-stay = λ j. refl;
-      handed-more = meet-hands (withoutItem x i) x (y .to) (y .load) (keeps.removed-sound x i g) refl (λ q. refl) (u .card) (u .up) (posted-below (x .posters) 32 (y .load) (g .notes) (u .posted));
+      handed-more = meet-hands (withoutItem x i) x (y .to) (y .load) (keeps.removed-sound x i g) refl refl (u .card) (u .up) (posted-below (x .posters) 32 (y .load) (g .notes) (u .posted));
     }
 
 pub carry-means : (x : SpreadState) (i : ℕ) → MadeSpread x → carryAnswer (seen x .net) i ≡ 0 → Carried (seen x) (seen (carryOn x i))
 carry-means x i g h =
     let t = carried-item (x .cards) (x .wire) (spreadWork x) i h in
-    rw (t .1) (receive-means x i (t .0) (g .whole) (t .1) (omega (arith, carry-accepted (seen x .net) i h, length-senders (x .wire))))
+    rw (t .1) (receive-means x i (t .0) (g .whole) (t .1) (t .2))
 
 pub lose-made : (x : SpreadState) (i : ℕ) → MadeSpread x → loseAnswer (seen x .net) i ≡ 0 → MadeSpread (withoutItem x i)
-lose-made x i g h = let t = lost-item (x .cards) (x .wire) (spreadWork x) i h in keeps.lose-made x i (t .0) g (t .1) (t .2)
+lose-made x i g h = let t = lost-item (x .cards) (x .wire) (spreadWork x) i h in keeps.lose-made x i (t .0) g (t .1) (t .3)
 
 pub lose-means : (x : SpreadState) (i : ℕ) → MadeSpread x → loseAnswer (seen x .net) i ≡ 0 → Lost (seen x) (seen (withoutItem x i)) i
 lose-means x i g h =
-    record { net = lose-net x i (omega (arith, lose-accepted (seen x .net) i h .0, length-senders (x .wire))); posters-stay = λ j. refl; sets-stay = λ p. refl }
+    record { net = lose-net x i (lost-item (x .cards) (x .wire) (spreadWork x) i h .2); posters-stay = λ j. refl; sets-stay = λ p. refl }
 
 pub crash-made : (x : SpreadState) (p : ℕ) → MadeSpread x → crashAnswer (seen x .net) p ≡ 0 → MadeSpread (crashOn x p)
 crash-made x p g h = keeps.crash-made x p g (crash-accepted (seen x .net) p h .0)

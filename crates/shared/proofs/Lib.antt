@@ -3,4 +3,5 @@ pub mod Wires
 pub mod Items
 pub mod Nets
 pub mod Free
+pub mod Taken
 pub mod Changes

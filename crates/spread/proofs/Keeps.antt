@@ -52,7 +52,7 @@ new-made n =
 
 -- A card meets a note.
 
-abbrev Running : SpreadState → ℕ → Type 0
+abbrev pub Running : SpreadState → ℕ → Type 0
 Running x p = (p < x .cards .count) × (crashedIn (x .cards) p ≡ false)
 
 relay-sound : (x : SpreadState) (p m : ℕ) → SoundSpread x → Running x p → isSome (posterIn (x .posters) m) ≡ true → lacks x p m ≡ true → SoundSpread (relayOn x p m)

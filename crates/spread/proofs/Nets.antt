@@ -18,10 +18,11 @@ use Rattle.shared.specs.Cards.{crashedIn, netOf}
 use Rattle.shared.specs.Tables.{posterIn, setIn}
 use Rattle.shared.specs.Wires.{senders, elsewhere}
 use Rattle.shared.specs.declared.wire.Item.{Item}
-use Rattle.shared.proofs.Changes.{posted-more, posted-below, noted-others-stay, senders-removed}
+use Rattle.shared.proofs.Changes.{posted-more, noted-others-stay}
 use Rattle.shared.proofs.Items.{part-left}
 use Rattle.shared.proofs.Nets.{new-net, same-cards, net-crashed, net-suspected, lawful-net}
-use Rattle.shared.proofs.Wires.{nth-there, length-senders}
+use Rattle.shared.proofs.Taken.{senders-removed}
+use Rattle.shared.proofs.Wires.{length-senders}
 use Rattle.spread.specs.Spread.{SpreadState, spreadWork, newSpread, meetOn, postedBy, postOn, withoutItem, crashOn, suspectOn}
 use Rattle.spread.specs.Made.{Underway, SoundSpread}
 use Rattle.spread.proofs.Keeps.{posted-sound, removed-sound, item-at}

@@ -39,12 +39,12 @@ meet-cases P x p m f g = by-test (lacks x p m) f g
     by-test false f g = g refl
 
 pub relay-room : (s : Spread) (p m : ℕ) → lacks (spreadOf s) p m ≡ true
-    → (length (itemsOf (s .wire)) + length (sent (cardsOf (s .cards)) p m (s .cards .count)) ≤ roomOf (s .wire))
-    × (length (itemsOf (s .wire) ++ sent (cardsOf (s .cards)) p m (s .cards .count)) + 5 * unrelayed (withNote (cardSetsOf (s .relayed)) p m) ≤ roomOf (s .wire))
+    → (length (itemsOf (s .wire)) + length (sent (cardsOf (s .cards)) p m (s .cards .size)) ≤ roomOf (s .wire))
+    × (length (itemsOf (s .wire) ++ sent (cardsOf (s .cards)) p m (s .cards .size)) + 5 * unrelayed (withNote (cardSetsOf (s .relayed)) p m) ≤ roomOf (s .wire))
 relay-room s p m h =
     let l = lacks-parts (spreadOf s) p m h in
-    let few = length-sent-others (cardsOf (s .cards)) p m (s .cards .count) (l .0) in
+    let few = length-sent-others (cardsOf (s .cards)) p m (s .cards .size) (l .0) in
     let six : length (cardSetsOf (s .relayed)) ≡ 6 = length-map (s .relayed .sets) bits ∙ s .relayed .cards in
     let less = unrelayed-falls (cardSetsOf (s .relayed)) p m six (omega (arith, l .0, s .cards .few)) (l .1) (l .2) in
-    let all = length-append (itemsOf (s .wire)) (sent (cardsOf (s .cards)) p m (s .cards .count)) in
+    let all = length-append (itemsOf (s .wire)) (sent (cardsOf (s .cards)) p m (s .cards .size)) in
     (omega (arith, s .room, s .cards .few), omega (arith, s .room, s .cards .few))
