@@ -1,5 +1,7 @@
 ghost use mathlib.Core.Path.{_≡_};
 ghost use mathlib.Core.Bool.{true, false, cond};
+ghost use mathlib.Core.List.{[]};
+ghost use Prim.Native.Nat.{_≤_};
 ghost use lib.Dec.{eqb, ltb};
 ghost use lib.ListN.{length};
 ghost use Rattle.std.specs.Finite.{nth};
@@ -11,7 +13,7 @@ ghost use Rattle.parts.specs.Refusals.{answered, postAnswer, loseAnswer, crashA
 ghost use Rattle.parts.specs.Views.{Quiet};
 ghost use Rattle.shared.specs.Cards.{crashedIn, suspectsIn, netOf};
 ghost use Rattle.shared.specs.Tables.{posterIn, setIn, postsView};
-ghost use Rattle.shared.specs.Wires.{senders};
+ghost use Rattle.shared.specs.Wires.{itemsOf, roomOf, senders};
 ghost use Rattle.spread.specs.Spread.{spreadOf, lacks, spreadWork, newSpread, relayOn, meetOn, postOn, withoutItem, carryOn, crashOn, suspectOn};
 use super::Spread;
 use notes::set::NoteSet;
@@ -25,11 +27,10 @@ use std::alloc::AllocError;
 use std::alloc::Global;
 
 impl Spread {
-    // Each of 32 notes is relayed by at most 6 cards, each time to at most 5 others.
     pub fn new(heap: Global, count: usize) -> Result<Spread, AllocError>
         ensures { λ r. ⌜ succeeded r (λ x. spreadOf x ≡ newSpread count) ⌝ }
     {
-        let wire = Wire::new(heap, 960)?;
+        let wire = Spread::wire_for_all(heap)?;
         Ok(Spread {
             cards: Cards::new(count),
             posters: Posters::new(),
@@ -92,7 +93,7 @@ impl Spread {
     pub fn is_quiet(&self) -> bool
         ensures { λ r. ⌜ Decides r (Quiet (netOf (spreadOf (now (self .entry)) .cards) (senders (spreadOf (now (self .entry)) .wire)) (spreadWork (spreadOf (now (self .entry)))))) ⌝ }
     {
-        self.wire.len() == 0 && self.cards.all_suspected()
+        self.settled()
     }
 
     pub fn card_count(&self) -> usize
@@ -136,6 +137,19 @@ impl Spread {
         ensures { λ r. ⌜ bits r ≡ setIn (spreadOf (now (self .entry)) .relayed) card ⌝ }
     {
         self.relayed.of(card)
+    }
+
+    // Each of 32 notes is relayed by at most 6 cards, each time to at most 5 others.
+    fn wire_for_all(heap: Global) -> Result<Wire<usize>, AllocError>
+        ensures { λ r. ⌜ succeeded r (λ w. (itemsOf w ≡ []) × (960 ≤ roomOf w)) ⌝ }
+    {
+        Wire::new(heap, 960)
+    }
+
+    fn settled(&self) -> bool
+        ensures { λ r. ⌜ Decides r (Quiet (netOf (spreadOf (now (self .entry)) .cards) (senders (spreadOf (now (self .entry)) .wire)) (spreadWork (spreadOf (now (self .entry)))))) ⌝ }
+    {
+        self.wire_len() == 0 && self.cards.all_suspected()
     }
 
     // A card that has not relayed the note relays it.

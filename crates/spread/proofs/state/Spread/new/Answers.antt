@@ -8,4 +8,4 @@ use Rattle.spread.proofs.state.Spread.new.Needs as need
 pub ghost-result : need.ghost-result
 ghost-result c =
     let wire = c .in-Continue-wire .ensures tt in
-    (omega (arith, ap length (wire .0), wire .1, ap unrelayed (c .new-4 .ensures) ∙ unrelayed-new), tt)
+    (omega (arith, ap length (wire .0), wire .1, ap unrelayed (c .new-3 .ensures) ∙ unrelayed-new), tt)
