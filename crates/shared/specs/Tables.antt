@@ -1,5 +1,4 @@
 -- The tables of the parts: who posted each note, a set of notes for each card, and a proposal or decision by instance and card.
-use mathlib.Core.Bool.{Bool, true, false, cond}
 use mathlib.Core.List.{List, [], _∷_, map}
 use Prim.Native.Nat.{ℕ, _+_}
 use lib.Bits.{bitOr}

@@ -1,5 +1,4 @@
 use native.Mathlib.Omega.{arith}
-use lib.ListN.{length}
 use Rattle.std.proofs.shelf.Lists.{length-append}
 use Rattle.shared.specs.Cards.{cardsOf}
 use Rattle.shared.specs.Wires.{itemsOf, sent}
