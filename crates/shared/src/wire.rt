@@ -69,6 +69,7 @@ impl<P: Copy> Wire<P> {
     // Sends to every running card but the sender, destinations ascending.
     pub fn send(&mut self, cards: &Cards, from: usize, load: P)
         ensures items { λ _. ⌜ itemsOf (now (self .exit)) ≡ sending (roomOf (now (self .entry))) (cardsOf (now (cards .entry))) from load (cardsOf (now (cards .entry)) .count) (itemsOf (now (self .entry))) ⌝ }
+        ensures tight { λ _. ⌜ (length (itemsOf (now (self .entry))) + length (sent (cardsOf (now (cards .entry))) from load (cardsOf (now (cards .entry)) .count)) ≤ roomOf (now (self .entry)) → itemsOf (now (self .exit)) ≡ itemsOf (now (self .entry)) ++ sent (cardsOf (now (cards .entry))) from load (cardsOf (now (cards .entry)) .count)) ⌝ }
         ensures fits { λ _. ⌜ (length (itemsOf (now (self .entry))) + cardsOf (now (cards .entry)) .count ≤ roomOf (now (self .entry)) → itemsOf (now (self .exit)) ≡ itemsOf (now (self .entry)) ++ sent (cardsOf (now (cards .entry))) from load (cardsOf (now (cards .entry)) .count)) ⌝ }
         ensures room { λ _. ⌜ roomOf (now (self .exit)) ≡ roomOf (now (self .entry)) ⌝ }
     {
