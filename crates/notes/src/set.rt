@@ -8,6 +8,15 @@ ghost use lib.Dec.{eqb, ltb};
 ghost use Rattle.std.specs.Options.{Cases};
 ghost use Rattle.notes.specs.Sets.{has, added, minus, low, howMany};
 ghost use Rattle.notes.specs.Models.{bits};
+use self::facts::bit_is_note;
+use self::facts::fewer_bits;
+use self::facts::joined_bits;
+use self::facts::lowest_bit_is_note;
+use self::facts::one_bit_more;
+use self::facts::ones_are_notes;
+use self::facts::some_bit_is_note;
+
+mod facts;
 
 // The notes that stand in it are numbers below 32; a greater number stands in no set.
 #[derive(Clone, Copy, PartialEq, Eq, Debug)]
@@ -35,48 +44,75 @@ impl NoteSet {
     }
 
     pub fn is_empty(self) -> bool
-        ensures { λ r. ⌜ r ≡ eqb (bits self) 0 ⌝ }
+        ensures number { λ r. ⌜ r ≡ eqb (bits self) 0 ⌝ }
+        ensures notes { λ r. ⌜ (r ≡ true → (m : ℕ) → has (bits self) m ≡ false) ⌝ ∗ ⌜ (r ≡ false → (m : ℕ) × (has (bits self) m ≡ true)) ⌝ }
     {
+        some_bit_is_note(self.mask);
         self.mask == 0
     }
 
     pub fn contains(self, note: usize) -> bool
         ensures { λ r. ⌜ r ≡ has (bits self) note ⌝ }
     {
+        bit_is_note(self.mask, note);
         note < 32 && (self.mask >> note) % 2 == 1
     }
 
     // The set with one note added; a number above 31 adds nothing.
     pub fn with(self, note: usize) -> NoteSet
-        ensures { λ r. ⌜ bits r ≡ added (bits self) note ⌝ }
+        ensures number { λ r. ⌜ bits r ≡ added (bits self) note ⌝ }
+        ensures notes { λ r. ⌜ ((m : ℕ) → has (bits r) m ≡ (has (bits self) m || (ltb note 32 && eqb m note))) ⌝ }
     {
-        if note < 32 { NoteSet { mask: self.mask | (1 << note) } } else { self }
+        one_bit_more(self.mask, note);
+        if note < 32 {
+            NoteSet {
+                mask: self.mask | (1 << note),
+            }
+        } else {
+            self
+        }
     }
 
     // The notes of this set that the other lacks.
     pub fn without(self, other: NoteSet) -> NoteSet
-        ensures { λ r. ⌜ bits r ≡ minus (bits self) (bits other) ⌝ }
+        ensures number { λ r. ⌜ bits r ≡ minus (bits self) (bits other) ⌝ }
+        ensures notes { λ r. ⌜ ((m : ℕ) → has (bits r) m ≡ (has (bits self) m && not (has (bits other) m))) ⌝ }
     {
-        NoteSet { mask: self.mask & (self.mask ^ other.mask) }
+        fewer_bits(self.mask, other.mask);
+        NoteSet {
+            mask: self.mask & (self.mask ^ other.mask),
+        }
     }
 
     pub fn union(self, other: NoteSet) -> NoteSet
-        ensures { λ r. ⌜ bits r ≡ bitOr (bits self) (bits other) ⌝ }
+        ensures number { λ r. ⌜ bits r ≡ bitOr (bits self) (bits other) ⌝ }
+        ensures notes { λ r. ⌜ ((m : ℕ) → has (bits r) m ≡ (has (bits self) m || has (bits other) m)) ⌝ }
     {
-        NoteSet { mask: self.mask | other.mask }
+        joined_bits(self.mask, other.mask);
+        NoteSet {
+            mask: self.mask | other.mask,
+        }
     }
 
     // How many notes it holds.
     pub fn count(self) -> usize
-        ensures { λ r. ⌜ r ≡ ones (bits self) ⌝ }
+        ensures ones { λ r. ⌜ r ≡ ones (bits self) ⌝ }
+        ensures held { λ r. ⌜ r ≡ howMany (has (bits self)) 32 ⌝ }
     {
+        ones_are_notes(self.mask);
         self.mask.count_ones() as usize
     }
 
     // The lowest note that it holds, if any.
     pub fn lowest(self) -> Option<usize>
-        ensures { λ r. ⌜ r ≡ low (bits self) ⌝ }
+        ensures zeros { λ r. ⌜ r ≡ low (bits self) ⌝ }
+        ensures held { λ r. ⌜ Cases r (bits self ≡ 0) (λ m. (m < 32) × (has (bits self) m ≡ true) × ((k : ℕ) → k < m → has (bits self) k ≡ false)) ⌝ }
     {
-        if self.mask == 0 { None } else { Some(self.mask.trailing_zeros() as usize) }
+        lowest_bit_is_note(self.mask);
+        if self.mask == 0 {
+            None
+        } else {
+            Some(self.mask.trailing_zeros() as usize)
+        }
     }
 }
