@@ -37,9 +37,10 @@ begins {batch} {decision} {p} {k = k} {l = l} a le m at-first =
     ([], sym (append-nil l ∙ same-log {q = p} a (subst (λ j. LogAfter batch decision p j l) e m) at-first))
 begins {batch} {decision} {p} {k = k} {l = l} a le m (one-more {k = j} {l = l′} s n f) =
     elim (cases-lt k (suc j)) [
-      inl lt ↦ let b = begins a (omega arith) m n in (b .0 ++ batch s, ap (λ x. x ++ batch s) (b .1) ∙ append-assoc l (b .0) (batch s))
-    | inr ge ↦ let e : k ≡ suc j = omega arith in
-        ([], sym (append-nil l ∙ same-log a (subst (λ j. LogAfter batch decision p j l) e m) (one-more s n f))) ]
+      | inl lt ↦ let b = begins a (omega arith) m n in (b .0 ++ batch s, ap (λ x. x ++ batch s) (b .1) ∙ append-assoc l (b .0) (batch s))
+      | inr ge ↦ let e : k ≡ suc j = omega arith in
+          ([], sym (append-nil l ∙ same-log a (subst (λ j. LogAfter batch decision p j l) e m) (one-more s n f)))
+    ]
 
 -- A card has a decision in each instance behind it.
 decided-behind : {batch : ℕ → List ℕ} {decision : ℕ → ℕ → Option ℕ} {p k : ℕ} {l : List ℕ}
@@ -47,8 +48,9 @@ decided-behind : {batch : ℕ → List ℕ} {decision : ℕ → ℕ → Option �
 decided-behind at-first i lt = absurd (omega arith)
 decided-behind {decision = decision} {p = p} (one-more {k = j} s n f) i lt =
     elim (cases-lt i j) [
-      inl below ↦ decided-behind n i below
-    | inr ge ↦ let e : j ≡ i = omega arith in (s, subst (λ x. decision x p ≡ Some s) e f) ]
+      | inl below ↦ decided-behind n i below
+      | inr ge ↦ let e : j ≡ i = omega arith in (s, subst (λ x. decision x p ≡ Some s) e f)
+    ]
 
 one-long : (m : ℕ) (l : List ℕ) → among m l ≡ true → 1 ≤ length l
 one-long m [] h = absurd (both-ways false refl h)
@@ -78,25 +80,43 @@ least (suc n) crashed f = by (cases-bool (crashed n)) (least n crashed f)
   where
     step : (P : ℕ → Type 0) → P n → ((q : ℕ) → q < n → P q) → (q : ℕ) → q < suc n → P q
     step P here below q l = elim (cases-eq q n) [
-        inl e ↦ subst P (sym e) here
-      | inr ne ↦ below q (omega arith) ]
+      | inl e ↦ subst P (sym e) here
+      | inr ne ↦ below q (omega arith)
+    ]
+
     by : (crashed n ≡ true) ⊎ (crashed n ≡ false)
         → ((p : ℕ) → p < n → crashed p ≡ false → ⊥) ⊎ Least n crashed f
         → ((p : ℕ) → p < suc n → crashed p ≡ false → ⊥) ⊎ Least (suc n) crashed f
     by (inl t) (inl none) = inl (step (λ p. crashed p ≡ false → ⊥) (λ h. both-ways (crashed n) h t) none)
-    by (inl t) (inr w) = inr (record { who = w .who; card = omega (arith, w .card); up = w .up;
-        low = step (λ q. crashed q ≡ false → f (w .who) ≤ f q) (λ h. absurd (both-ways (crashed n) h t)) (w .low) })
-    by (inr u) (inl none) = inr (record { who = n; card = omega arith; up = u;
-        low = step (λ q. crashed q ≡ false → f n ≤ f q) (λ h. omega arith) (λ q l h. absurd (none q l h)) })
+    by (inl t) (inr w) = inr (record {
+      who = w .who;
+      card = omega (arith, w .card);
+      up = w .up;
+      low = step (λ q. crashed q ≡ false → f (w .who) ≤ f q) (λ h. absurd (both-ways (crashed n) h t)) (w .low);
+    })
+    by (inr u) (inl none) = inr (record {
+      who = n;
+      card = omega arith;
+      up = u;
+      low = step (λ q. crashed q ≡ false → f n ≤ f q) (λ h. omega arith) (λ q l h. absurd (none q l h));
+    })
     by (inr u) (inr w) = elim (cases-lt (f n) (f (w .who))) [
-        inl lt ↦ inr (record { who = n; card = omega arith; up = u;
-            low = step (λ q. crashed q ≡ false → f n ≤ f q) (λ h. omega arith) (λ q l h. omega (arith, w .low q l h)) })
-      | inr ge ↦ inr (record { who = w .who; card = omega (arith, w .card); up = w .up;
-            low = step (λ q. crashed q ≡ false → f (w .who) ≤ f q) (λ h. ge) (w .low) }) ]
+      | inl lt ↦ inr (record {
+        who = n;
+        card = omega arith;
+        up = u;
+        low = step (λ q. crashed q ≡ false → f n ≤ f q) (λ h. omega arith) (λ q l h. omega (arith, w .low q l h));
+      })
+      | inr ge ↦ inr (record {
+        who = w .who;
+        card = omega (arith, w .card);
+        up = w .up;
+        low = step (λ q. crashed q ≡ false → f (w .who) ≤ f q) (λ h. ge) (w .low);
+      })
+    ]
 
 module _ {B C book : ℕ} {batch : ℕ → List ℕ} {b : BroadcastView} {c : ConsensusView} {o : Ledger}
     (R : Ranks batch book) (LB : BroadcastLaws book b) (LC : ConsensusLaws c) (I : Consistent B C batch b c o) where
-
   -- A decided batch has no note of the log before it.
   batch-is-new : (p k s : ℕ) (l : List ℕ) → LogAfter batch (c .decision) p k l → c .decision k p ≡ Some s → (m : ℕ) → In s m → among m l ≡ false
   batch-is-new p k s l n e m h =
@@ -108,15 +128,16 @@ module _ {B C book : ℕ} {batch : ℕ → List ℕ} {b : BroadcastView} {c : Co
   none-twice p at-first = tt
   none-twice p (one-more {k} {l} s n e) =
       none-twice-append l (batch s) (none-twice p n) (R .once s)
-        (λ m h. batch-is-new p k s l n e m (R .members s m h))
+      (λ m h. batch-is-new p k s l n e m (R .members s m h))
 
   only-posted : (p m : ℕ) {k : ℕ} {l : List ℕ} → LogAfter batch (c .decision) p k l → among m l ≡ true → Posted b m
   only-posted p m at-first h = absurd (both-ways false refl h)
   only-posted p m (one-more {k} {l} s n e) h =
       elim (or-cases (among m l) (among m (batch s)) (sym (among-append m l (batch s)) ∙ h)) [
-        inl i ↦ only-posted p m n i
-      | inr i ↦ let v = LC .decided-was-proposed k p s e in
-          LB .handed-was-posted (v .0) m (I .sound k (v .0) s (v .1) .handed m (R .members s m i)) ]
+        | inl i ↦ only-posted p m n i
+        | inr i ↦ let v = LC .decided-was-proposed k p s e in
+            LB .handed-was-posted (v .0) m (I .sound k (v .0) s (v .1) .handed m (R .members s m i))
+      ]
 
   -- No batch is empty.
   long-enough : (p : ℕ) {k : ℕ} {l : List ℕ} → LogAfter batch (c .decision) p k l → k ≤ length l
@@ -141,9 +162,10 @@ module _ {B C book : ℕ} {batch : ℕ → List ℕ} {b : BroadcastView} {c : Co
   unfolding posts
   room p m out w =
       let all = pigeons (m ∷ o .log p) (λ i. oneIf (b .poster i)) 32 (out, none-twice p (I .made p))
-            (λ i h. elim (or-cases (eqb i m) (among i (o .log p)) h) [
-                inl e ↦ counted i (subst (Posted b) (sym (eqb-true i m e)) w)
-              | inr l ↦ counted i (only-posted p i (I .made p) l) ]) in
+      (λ i h. elim (or-cases (eqb i m) (among i (o .log p)) h) [
+        | inl e ↦ counted i (subst (Posted b) (sym (eqb-true i m e)) w)
+        | inr l ↦ counted i (only-posted p i (I .made p) l)
+      ]) in
       omega (arith, all, long-enough p (I .made p))
 
   pub instance-within-posts : (p : ℕ) → o .instance p ≤ posts b
@@ -162,7 +184,7 @@ module _ {B C book : ℕ} {batch : ℕ → List ℕ} {b : BroadcastView} {c : Co
           let S = I .sound (o .instance p) p s e in
           let m = S .some .0 in
           room p m (subst (λ l. among m l ≡ false) (same-log (LC .agreed) (S .made) (I .made p)) (S .fresh m (S .some .1)))
-            (LB .handed-was-posted p m (S .handed m (S .some .1)))
+          (LB .handed-was-posted p m (S .handed m (S .some .1)))
 
   spent-within : (p : ℕ) → spent C c (o .instance) p ≤ posts b * (C + 2)
   spent-within p =
@@ -190,7 +212,7 @@ module _ {B C book : ℕ} {batch : ℕ → List ℕ} {b : BroadcastView} {c : Co
       omega (arith, within-bound, all)
 
   outside-empty : (p : ℕ) → b .net .cards ≤ p → o .log p ≡ []
-  outside-empty p l = same-log {p = p} (LC .agreed) (subst (λ k. LogAfter batch (c .decision) p k (o .log p)) (I .outside p l) (I .made p)) at-first
+  outside-empty p l = same-log {p = p} {q = p} (LC .agreed) (subst (λ k. LogAfter batch (c .decision) p k (o .log p)) (I .outside p l) (I .made p)) at-first
 
   to-broadcast : (p : ℕ) → Runs (c .net) p → Runs (b .net) p
   to-broadcast p r = record { card = omega (arith, r .card, I .net .cards); up = sym (I .net .crashed p) ∙ r .up }
@@ -213,30 +235,33 @@ module _ {B C book : ℕ} {batch : ℕ → List ℕ} {b : BroadcastView} {c : Co
       -- What is handed to a running card is in the log of p₀: otherwise all have proposed in its instance, so it could take.
       handed-in-least : (q m : ℕ) → Runs (b .net) q → In (b .handed q) m → among m (o .log p₀) ≡ true
       handed-in-least q m r h = elim (cases-bool (among m (o .log p₀))) [
-          inl t ↦ t
+        | inl t ↦ t
         | inr f ↦ let d = LC .decided-at-rest consensus-quiet (o .instance p₀) (all f) p₀ (to-consensus p₀ r₀) in
-            absurd (not-none (c .decision (o .instance p₀) p₀) (d .0) (d .1) (rest .no-take p₀ r₀)) ]
+            absurd (not-none (c .decision (o .instance p₀) p₀) (d .0) (d .1) (rest .no-take p₀ r₀))
+      ]
         where
           all : among m (o .log p₀) ≡ false → (x : ℕ) → Runs (c .net) x → (t : ℕ) × (c .proposal (o .instance p₀) x ≡ Some t)
           all f x rx = elim (cases-lt (o .instance p₀) (o .instance x)) [
-              inl lt ↦ let s = decided-behind (I .made x) (o .instance p₀) lt in LC .decider-proposed (o .instance p₀) x (s .0) (s .1)
+            | inl lt ↦ let s = decided-behind (I .made x) (o .instance p₀) lt in LC .decider-proposed (o .instance p₀) x (s .0) (s .1)
             | inr ge ↦
                 let e : o .instance x ≡ o .instance p₀ = omega (arith, low x (to-broadcast x rx)) in
                 let l : o .log p₀ ≡ o .log x = same-log (LC .agreed) (I .made p₀) (subst (λ k. LogAfter batch (c .decision) x k (o .log x)) e (I .made x)) in
                 let t = rest .no-proposal x m (to-broadcast x rx) (LB .equal-at-rest broadcast-quiet q x m r (to-broadcast x rx) h) (subst (λ y. among m y ≡ false) l f) in
-                subst (λ k. (t : ℕ) × (c .proposal k x ≡ Some t)) e t ]
+                subst (λ k. (t : ℕ) × (c .proposal k x ≡ Some t)) e t
+          ]
 
       -- A card whose handed notes are all in that log is not beyond that instance: to come there it had a new note.
       not-beyond : (q : ℕ) → ((m : ℕ) → In (b .handed q) m → among m (o .log p₀) ≡ true) → o .instance q ≤ o .instance p₀
       not-beyond q h = elim (cases-lt (o .instance p₀) (o .instance q)) [
-          inl lt ↦
+        | inl lt ↦
             let d = decided-behind (I .made q) (o .instance p₀) lt in
             let t = LC .decider-proposed (o .instance p₀) q (d .0) (d .1) in
             let S = I .sound (o .instance p₀) q (t .0) (t .1) in
             let m = S .some .0 in
             let out = subst (λ y. among m y ≡ false) (same-log (LC .agreed) (S .made) (I .made p₀)) (S .fresh m (S .some .1)) in
             absurd (both-ways (among m (o .log p₀)) out (h m (S .handed m (S .some .1))))
-        | inr ge ↦ ge ]
+        | inr ge ↦ ge
+      ]
 
       log-of-least : (q : ℕ) → Runs (b .net) q → o .log q ≡ o .log p₀
       log-of-least q r =
@@ -245,8 +270,9 @@ module _ {B C book : ℕ} {batch : ℕ → List ℕ} {b : BroadcastView} {c : Co
 
     least-running : (p : ℕ) → Runs (b .net) p → Least (b .net .cards) (b .net .crashed) (o .instance)
     least-running p r = elim (least (b .net .cards) (b .net .crashed) (o .instance)) [
-        inl none ↦ absurd (none p (r .card) (r .up))
-      | inr w ↦ w ]
+      | inl none ↦ absurd (none p (r .card) (r .up))
+      | inr w ↦ w
+    ]
 
     -- What holds wherever there is a running card with the least instance holds wherever a card runs.
     at-least : (p : ℕ) → Runs (b .net) p → {P : Type 0}
@@ -270,8 +296,9 @@ module _ {B C book : ℕ} {batch : ℕ → List ℕ} {b : BroadcastView} {c : Co
   pub one-order : OneOrder B C b c o
   one-order = record {
     one-log-begins-the-other = λ p q. elim (cases-lt (o .instance p) (o .instance q)) [
-        inl lt ↦ inl (begins (LC .agreed) (omega arith) (I .made p) (I .made q))
-      | inr ge ↦ inr (begins (LC .agreed) ge (I .made q) (I .made p)) ];
+      | inl lt ↦ inl (begins (LC .agreed) (omega arith) (I .made p) (I .made q))
+      | inr ge ↦ inr (begins (LC .agreed) ge (I .made q) (I .made p))
+    ];
     no-note-twice = λ p. none-twice p (I .made p);
     only-posted-notes = λ p m h. only-posted p m (I .made p) h;
     no-log-outside = outside-empty;

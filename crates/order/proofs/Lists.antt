@@ -21,9 +21,10 @@ among-append m (x ∷ xs) r = ap (λ t. eqb m x || t) (among-append m xs r) ∙ 
 
 pub none-twice-append : (l r : List ℕ) → NoneTwice l → NoneTwice r → ((m : ℕ) → among m r ≡ true → among m l ≡ false) → NoneTwice (l ++ r)
 none-twice-append [] r ol or apart = or
-none-twice-append (x ∷ xs) r ol or apart =
-    ( among-append x xs r ∙ or-from (among x xs) (among x r) (ol .0) (not-in (cases-bool (among x r)))
-    , none-twice-append xs r (ol .1) or (λ m h. or-parts (eqb m x) (among m xs) (apart m h) .1))
+none-twice-append (x ∷ xs) r ol or apart = (
+  among-append x xs r ∙ or-from (among x xs) (among x r) (ol .0) (not-in (cases-bool (among x r))),
+  none-twice-append xs r (ol .1) or (λ m h. or-parts (eqb m x) (among m xs) (apart m h) .1),
+)
   where
     not-in : (among x r ≡ true) ⊎ (among x r ≡ false) → among x r ≡ false
     not-in (inl t) = absurd (both-ways (eqb x x) (or-parts (eqb x x) (among x xs) (apart x t) .0) (eq-eqb x x refl))
@@ -38,10 +39,11 @@ pub sum-bump : (f g : ℕ → ℕ) (n x d : ℕ) → x < n → ((i : ℕ) → (i
 sum-bump f g zero x d l h hx = omega arith
 sum-bump f g (suc n) x d l h hx =
     elim (cases-eq n x) [
-      inl e ↦
-        let at : f n + d ≤ g n = subst (λ y. f y + d ≤ g y) (sym e) hx in
-        omega (arith, sum-le f g n (λ i below. h i (λ same. omega arith)), at)
-    | inr ne ↦ omega (arith, sum-bump f g n x d (omega arith) h hx, h n ne) ]
+      | inl e ↦
+          let at : f n + d ≤ g n = subst (λ y. f y + d ≤ g y) (sym e) hx in
+          omega (arith, sum-le f g n (λ i below. h i (λ same. omega arith)), at)
+      | inr ne ↦ omega (arith, sum-bump f g n x d (omega arith) h hx, h n ne)
+    ]
 
 pub sum-const : (a n : ℕ) → sum (λ _. a) n ≡ n * a
 sum-const a zero = omega arith
@@ -58,9 +60,12 @@ pigeons (x ∷ xs) f n o h =
   where
     less : ℕ → ℕ
     less m = cond (eqb m x) 0 (f m)
+
     none : less x ≡ 0
     none = ap (λ t. cond t 0 (f x)) (eq-eqb x x refl)
+
     apart : (m : ℕ) → among m xs ≡ true → m ≡ x → ⊥
     apart m i e = both-ways (among x xs) (o .0) (subst (λ y. among y xs ≡ true) e i)
+
     other : (m : ℕ) → (m ≡ x → ⊥) → less m ≡ f m
     other m ne = ap (λ t. cond t 0 (f m)) (ne-eqb m x ne)
