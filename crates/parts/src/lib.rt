@@ -1,1 +1,5 @@
-// The interfaces of broadcast and consensus, and what the supplied parts share.
+// The interfaces of broadcast and consensus: what each call answers and makes, and what is certain of it.
+pub mod broadcast;
+pub mod consensus;
+pub mod refusal;
+pub mod uniform;
