@@ -10,11 +10,16 @@ use lib.Dec.{eqb}
 use lib.ListN.{length, length-append}
 use Rattle.std.proofs.shelf.Bits.{mul-le}
 use Rattle.std.proofs.shelf.Tests.{eqb-true, cases-bool, cases-eq, cases-lt, or-cases, both-ways}
+use Rattle.std.specs.Options.{isSome}
 use Rattle.std.specs.declared.option.Option.{Option}
 use Rattle.std.specs.declared.option.Option.the-variants.{Some, None}
 use Rattle.parts.specs.Views.{BroadcastView, ConsensusView, Runs, FullSuspicion, Quiet}
+use Rattle.parts.specs.Broadcasting.{UniformAgreement}
+use Rattle.parts.specs.Broadcasting as broadcast
+use Rattle.parts.specs.Deciding as consensus
+use Rattle.parts.proofs.Options.{some-held}
 use Rattle.order.specs.Words.{In, among, NoneTwice, Begins, sum, oneIf, stepBound}
-use Rattle.order.specs.Views.{Ledger, Posted, posts, BroadcastLaws, ConsensusLaws, UniformlyHanded, Ranks, Rest}
+use Rattle.order.specs.Views.{Ledger, IsPosted, posts, Ranks, Rest}
 use Rattle.order.specs.Law.{OneOrder}
 use Rattle.order.proofs.Lists.{among-append, none-twice-append, sum-le, sum-const, pigeons}
 use Rattle.order.proofs.Invariant.{LogAfter, SoundProposal, spent, Consistent}
@@ -116,13 +121,19 @@ least (suc n) crashed f = by (cases-bool (crashed n)) (least n crashed f)
     ]
 
 module _ {B C book : ℕ} {batch : ℕ → List ℕ} {b : BroadcastView} {c : ConsensusView} {o : Ledger}
-    (R : Ranks batch book) (LB : BroadcastLaws book b) (LC : ConsensusLaws c) (I : Consistent B C batch b c o) where
+    (R : Ranks batch book) (LB : broadcast.Lawful b) (LC : consensus.Lawful c) (I : Consistent B C book batch b c o) where
+  handed-was-posted : (p m : ℕ) → In (b .handed p) m → IsPosted b m
+  handed-was-posted p m h = some-held (b .poster m) (LB .only-posted-notes-handed p m h)
+
+  decider-proposed : (k p s : ℕ) → c .decision k p ≡ Some s → (t : ℕ) × (c .proposal k p ≡ Some t)
+  decider-proposed k p s e = some-held (c .proposal k p) (LC .decided-have-proposed k p (ap isSome e))
+
   -- A decided batch has no note of the log before it.
   batch-is-new : (p k s : ℕ) (l : List ℕ) → LogAfter batch (c .decision) p k l → c .decision k p ≡ Some s → (m : ℕ) → In s m → among m l ≡ false
   batch-is-new p k s l n e m h =
-      let v = LC .decided-was-proposed k p s e in
+      let v = LC .decisions-were-proposed k p s e in
       let S = I .sound k (v .0) s (v .1) in
-      subst (λ x. among m x ≡ false) (same-log (LC .agreed) (S .made) n) (S .fresh m h)
+      subst (λ x. among m x ≡ false) (same-log (LC .decisions-equal) (S .made) n) (S .fresh m h)
 
   none-twice : (p : ℕ) {k : ℕ} {l : List ℕ} → LogAfter batch (c .decision) p k l → NoneTwice l
   none-twice p at-first = tt
@@ -130,27 +141,27 @@ module _ {B C book : ℕ} {batch : ℕ → List ℕ} {b : BroadcastView} {c : Co
       none-twice-append l (batch s) (none-twice p n) (R .once s)
       (λ m h. batch-is-new p k s l n e m (R .members s m h))
 
-  only-posted : (p m : ℕ) {k : ℕ} {l : List ℕ} → LogAfter batch (c .decision) p k l → among m l ≡ true → Posted b m
+  only-posted : (p m : ℕ) {k : ℕ} {l : List ℕ} → LogAfter batch (c .decision) p k l → among m l ≡ true → IsPosted b m
   only-posted p m at-first h = absurd (both-ways false refl h)
   only-posted p m (one-more {k} {l} s n e) h =
       elim (or-cases (among m l) (among m (batch s)) (sym (among-append m l (batch s)) ∙ h)) [
         | inl i ↦ only-posted p m n i
-        | inr i ↦ let v = LC .decided-was-proposed k p s e in
-            LB .handed-was-posted (v .0) m (I .sound k (v .0) s (v .1) .handed m (R .members s m i))
+        | inr i ↦ let v = LC .decisions-were-proposed k p s e in
+            handed-was-posted (v .0) m (I .sound k (v .0) s (v .1) .handed m (R .members s m i))
       ]
 
   -- No batch is empty.
   long-enough : (p : ℕ) {k : ℕ} {l : List ℕ} → LogAfter batch (c .decision) p k l → k ≤ length l
   long-enough p at-first = omega arith
   long-enough p (one-more {k} {l} s n e) =
-      let v = LC .decided-was-proposed k p s e in
+      let v = LC .decisions-were-proposed k p s e in
       let S = I .sound k (v .0) s (v .1) in
       let m = S .some .0 in
-      let known = LB .in-book m (LB .handed-was-posted (v .0) m (S .handed m (S .some .1))) in
+      let known = I .in-book m (handed-was-posted (v .0) m (S .handed m (S .some .1))) in
       omega (arith, long-enough p n, length-append l (batch s), one-long m (batch s) (R .covers s m known (S .some .1)))
 
-  counted : (m : ℕ) → Posted b m → (m < 32) × (1 ≤ oneIf (b .poster m))
-  counted m w = (omega (arith, LB .in-book m w, LB .few-notes), omega (arith, ap oneIf (w .1)))
+  counted : (m : ℕ) → IsPosted b m → (m < 32) × (1 ≤ oneIf (b .poster m))
+  counted m w = (LB .posted-notes-below-32 m (ap isSome (w .1)), omega (arith, ap oneIf (w .1)))
 
   -- What is taken is posted, and nothing is taken twice.
   taken-within-posts : (p : ℕ) {k : ℕ} {l : List ℕ} → LogAfter batch (c .decision) p k l → length l ≤ posts b
@@ -158,12 +169,12 @@ module _ {B C book : ℕ} {batch : ℕ → List ℕ} {b : BroadcastView} {c : Co
   taken-within-posts p n = pigeons _ (λ i. oneIf (b .poster i)) 32 (none-twice p n) (λ i h. counted i (only-posted p i n h))
 
   -- A posted note that is not in a log leaves room for one more instance.
-  pub room : (p m : ℕ) → among m (o .log p) ≡ false → Posted b m → o .instance p + 1 ≤ posts b
+  pub room : (p m : ℕ) → among m (o .log p) ≡ false → IsPosted b m → o .instance p + 1 ≤ posts b
   unfolding posts
   room p m out w =
       let all = pigeons (m ∷ o .log p) (λ i. oneIf (b .poster i)) 32 (out, none-twice p (I .made p))
       (λ i h. elim (or-cases (eqb i m) (among i (o .log p)) h) [
-        | inl e ↦ counted i (subst (Posted b) (sym (eqb-true i m e)) w)
+        | inl e ↦ counted i (subst (IsPosted b) (sym (eqb-true i m e)) w)
         | inr l ↦ counted i (only-posted p i (I .made p) l)
       ]) in
       omega (arith, all, long-enough p (I .made p))
@@ -183,8 +194,8 @@ module _ {B C book : ℕ} {batch : ℕ → List ℕ} {b : BroadcastView} {c : Co
       go (Some s) e =
           let S = I .sound (o .instance p) p s e in
           let m = S .some .0 in
-          room p m (subst (λ l. among m l ≡ false) (same-log (LC .agreed) (S .made) (I .made p)) (S .fresh m (S .some .1)))
-          (LB .handed-was-posted p m (S .handed m (S .some .1)))
+          room p m (subst (λ l. among m l ≡ false) (same-log (LC .decisions-equal) (S .made) (I .made p)) (S .fresh m (S .some .1)))
+          (handed-was-posted p m (S .handed m (S .some .1)))
 
   spent-within : (p : ℕ) → spent C c (o .instance) p ≤ posts b * (C + 2)
   spent-within p =
@@ -207,12 +218,12 @@ module _ {B C book : ℕ} {batch : ℕ → List ℕ} {b : BroadcastView} {c : Co
   -- So the count of steps fits a machine word.
   pub steps-small : B < 2 ^ 32 → C < 2 ^ 32 → o .steps < 2 ^ 63
   steps-small hb hc =
-      let per = mul-le (b .net .cards) (C + 2) 6 (2 ^ 33) (LB .few-cards) (omega arith) in
+      let per = mul-le (b .net .cards) (C + 2) 6 (2 ^ 33) (LB .net .few-cards) (omega arith) in
       let all = mul-le (posts b) (B + b .net .cards * (C + 2)) 32 (2 ^ 37) (posts-few b) (omega (arith, per)) in
       omega (arith, within-bound, all)
 
   outside-empty : (p : ℕ) → b .net .cards ≤ p → o .log p ≡ []
-  outside-empty p l = same-log {p = p} {q = p} (LC .agreed) (subst (λ k. LogAfter batch (c .decision) p k (o .log p)) (I .outside p l) (I .made p)) at-first
+  outside-empty p l = same-log {p = p} {q = p} (LC .decisions-equal) (subst (λ k. LogAfter batch (c .decision) p k (o .log p)) (I .outside p l) (I .made p)) at-first
 
   to-broadcast : (p : ℕ) → Runs (c .net) p → Runs (b .net) p
   to-broadcast p r = record { card = omega (arith, r .card, I .net .cards); up = sym (I .net .crashed p) ∙ r .up }
@@ -230,23 +241,29 @@ module _ {B C book : ℕ} {batch : ℕ → List ℕ} {b : BroadcastView} {c : Co
       known = λ q p r l e. I .net .suspects q p ∙ full q p (to-broadcast q r) (omega (arith, l, I .net .cards)) (sym (I .net .crashed p) ∙ e);
     }
 
+    equal-at-rest : (p q m : ℕ) → Runs (b .net) p → Runs (b .net) q → In (b .handed p) m → In (b .handed q) m
+    equal-at-rest p q m rp rq h = subst (λ s. In s m) (LB .quiet-sets-equal broadcast-quiet p q rp rq) h
+
+    decided-at-rest : (k : ℕ) → ((p : ℕ) → Runs (c .net) p → (t : ℕ) × (c .proposal k p ≡ Some t)) → (p : ℕ) → Runs (c .net) p → (s : ℕ) × (c .decision k p ≡ Some s)
+    decided-at-rest k all p r = some-held (c .decision k p) (LC .quiet-all-decided consensus-quiet k (λ q rq. ap isSome (all q rq .1)) p r)
+
     -- p₀ is a running card whose instance is the least of those of running cards.
     module _ (p₀ : ℕ) (r₀ : Runs (b .net) p₀) (low : (q : ℕ) → Runs (b .net) q → o .instance p₀ ≤ o .instance q) where
       -- What is handed to a running card is in the log of p₀: otherwise all have proposed in its instance, so it could take.
       handed-in-least : (q m : ℕ) → Runs (b .net) q → In (b .handed q) m → among m (o .log p₀) ≡ true
       handed-in-least q m r h = elim (cases-bool (among m (o .log p₀))) [
         | inl t ↦ t
-        | inr f ↦ let d = LC .decided-at-rest consensus-quiet (o .instance p₀) (all f) p₀ (to-consensus p₀ r₀) in
+        | inr f ↦ let d = decided-at-rest (o .instance p₀) (all f) p₀ (to-consensus p₀ r₀) in
             absurd (not-none (c .decision (o .instance p₀) p₀) (d .0) (d .1) (rest .no-take p₀ r₀))
       ]
         where
           all : among m (o .log p₀) ≡ false → (x : ℕ) → Runs (c .net) x → (t : ℕ) × (c .proposal (o .instance p₀) x ≡ Some t)
           all f x rx = elim (cases-lt (o .instance p₀) (o .instance x)) [
-            | inl lt ↦ let s = decided-behind (I .made x) (o .instance p₀) lt in LC .decider-proposed (o .instance p₀) x (s .0) (s .1)
+            | inl lt ↦ let s = decided-behind (I .made x) (o .instance p₀) lt in decider-proposed (o .instance p₀) x (s .0) (s .1)
             | inr ge ↦
                 let e : o .instance x ≡ o .instance p₀ = omega (arith, low x (to-broadcast x rx)) in
-                let l : o .log p₀ ≡ o .log x = same-log (LC .agreed) (I .made p₀) (subst (λ k. LogAfter batch (c .decision) x k (o .log x)) e (I .made x)) in
-                let t = rest .no-proposal x m (to-broadcast x rx) (LB .equal-at-rest broadcast-quiet q x m r (to-broadcast x rx) h) (subst (λ y. among m y ≡ false) l f) in
+                let l : o .log p₀ ≡ o .log x = same-log (LC .decisions-equal) (I .made p₀) (subst (λ k. LogAfter batch (c .decision) x k (o .log x)) e (I .made x)) in
+                let t = rest .no-proposal x m (to-broadcast x rx) (equal-at-rest q x m r (to-broadcast x rx) h) (subst (λ y. among m y ≡ false) l f) in
                 subst (λ k. (t : ℕ) × (c .proposal k x ≡ Some t)) e t
           ]
 
@@ -255,10 +272,10 @@ module _ {B C book : ℕ} {batch : ℕ → List ℕ} {b : BroadcastView} {c : Co
       not-beyond q h = elim (cases-lt (o .instance p₀) (o .instance q)) [
         | inl lt ↦
             let d = decided-behind (I .made q) (o .instance p₀) lt in
-            let t = LC .decider-proposed (o .instance p₀) q (d .0) (d .1) in
+            let t = decider-proposed (o .instance p₀) q (d .0) (d .1) in
             let S = I .sound (o .instance p₀) q (t .0) (t .1) in
             let m = S .some .0 in
-            let out = subst (λ y. among m y ≡ false) (same-log (LC .agreed) (S .made) (I .made p₀)) (S .fresh m (S .some .1)) in
+            let out = subst (λ y. among m y ≡ false) (same-log (LC .decisions-equal) (S .made) (I .made p₀)) (S .fresh m (S .some .1)) in
             absurd (both-ways (among m (o .log p₀)) out (h m (S .handed m (S .some .1))))
         | inr ge ↦ ge
       ]
@@ -266,7 +283,7 @@ module _ {B C book : ℕ} {batch : ℕ → List ℕ} {b : BroadcastView} {c : Co
       log-of-least : (q : ℕ) → Runs (b .net) q → o .log q ≡ o .log p₀
       log-of-least q r =
           let e : o .instance q ≡ o .instance p₀ = omega (arith, low q r, not-beyond q (λ m h. handed-in-least q m r h)) in
-          same-log (LC .agreed) (subst (λ k. LogAfter batch (c .decision) q k (o .log q)) e (I .made q)) (I .made p₀)
+          same-log (LC .decisions-equal) (subst (λ k. LogAfter batch (c .decision) q k (o .log q)) e (I .made q)) (I .made p₀)
 
     least-running : (p : ℕ) → Runs (b .net) p → Least (b .net .cards) (b .net .crashed) (o .instance)
     least-running p r = elim (least (b .net .cards) (b .net .crashed) (o .instance)) [
@@ -286,18 +303,18 @@ module _ {B C book : ℕ} {batch : ℕ → List ℕ} {b : BroadcastView} {c : Co
 
     logged : (p q m : ℕ) → Runs (b .net) p → Runs (b .net) q → b .poster m ≡ Some p → among m (o .log q) ≡ true
     logged p q m rp rq e = at-least p rp (λ p₀ r₀ low.
-        subst (λ y. among m y ≡ true) (sym (log-of-least p₀ r₀ low q rq)) (handed-in-least p₀ r₀ low q m rq (LB .own-at-rest broadcast-quiet p q m rp rq e)))
+        subst (λ y. among m y ≡ true) (sym (log-of-least p₀ r₀ low q rq)) (handed-in-least p₀ r₀ low q m rq (LB .quiet-sets-full broadcast-quiet p q m rp rq e)))
 
-    begin-running : UniformlyHanded b → (p q : ℕ) → Runs (b .net) q → Begins (o .log p) (o .log q)
+    begin-running : UniformAgreement b → (p q : ℕ) → Runs (b .net) q → Begins (o .log p) (o .log q)
     begin-running U p q rq = at-least q rq (λ p₀ r₀ low.
         let le = not-beyond p₀ r₀ low p (λ m h. handed-in-least p₀ r₀ low p₀ m r₀ (U p p₀ m h r₀)) in
-        begins (LC .agreed) (omega (arith, le, low q rq)) (I .made p) (I .made q))
+        begins (LC .decisions-equal) (omega (arith, le, low q rq)) (I .made p) (I .made q))
 
   pub one-order : OneOrder B C b c o
   one-order = record {
     one-log-begins-the-other = λ p q. elim (cases-lt (o .instance p) (o .instance q)) [
-      | inl lt ↦ inl (begins (LC .agreed) (omega arith) (I .made p) (I .made q))
-      | inr ge ↦ inr (begins (LC .agreed) ge (I .made q) (I .made p))
+      | inl lt ↦ inl (begins (LC .decisions-equal) (omega arith) (I .made p) (I .made q))
+      | inr ge ↦ inr (begins (LC .decisions-equal) ge (I .made q) (I .made p))
     ];
     no-note-twice = λ p. none-twice p (I .made p);
     only-posted-notes = λ p m h. only-posted p m (I .made p) h;

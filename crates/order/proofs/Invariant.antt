@@ -2,12 +2,13 @@
 use mathlib.Core.Path.{_≡_}
 use mathlib.Core.Bool.{false}
 use mathlib.Core.List.{List, [], _++_}
-use Prim.Native.Nat.{ℕ, suc, _+_, _*_, _≤_}
+use Prim.Native.Nat.{ℕ, suc, _+_, _*_, _≤_, _<_}
 use Rattle.std.specs.declared.option.Option.{Option}
 use Rattle.std.specs.declared.option.Option.the-variants.{Some, None}
 use Rattle.parts.specs.Views.{BroadcastView, ConsensusView}
+use Rattle.parts.specs.Nets.{SameCards}
 use Rattle.order.specs.Words.{In, among, sum, oneIf}
-use Rattle.order.specs.Views.{Ledger, posts, SameCards}
+use Rattle.order.specs.Views.{Ledger, IsPosted, posts}
 
 -- The log of card p when it has taken its first k decisions.
 pub data LogAfter (batch : ℕ → List ℕ) (decision : ℕ → ℕ → Option ℕ) (p : ℕ) : ℕ → List ℕ → Type 0 where
@@ -26,8 +27,9 @@ pub record SoundProposal (batch : ℕ → List ℕ) (b : BroadcastView) (decisio
 abbrev pub spent : ℕ → ConsensusView → (ℕ → ℕ) → ℕ → ℕ
 spent C v instance p = instance p * (C + 2) + oneIf (v .proposal (instance p) p) * (C + 1)
 
-pub record Consistent (B C : ℕ) (batch : ℕ → List ℕ) (b : BroadcastView) (c : ConsensusView) (o : Ledger) : Type 0 where
+pub record Consistent (B C book : ℕ) (batch : ℕ → List ℕ) (b : BroadcastView) (c : ConsensusView) (o : Ledger) : Type 0 where
   pub net : SameCards (b .net) (c .net)
+  pub in-book : (m : ℕ) → IsPosted b m → m < book
   pub outside : (p : ℕ) → b .net .cards ≤ p → o .instance p ≡ 0
   pub made : (p : ℕ) → LogAfter batch (c .decision) p (o .instance p) (o .log p)
   pub sound : (k q s : ℕ) → c .proposal k q ≡ Some s → SoundProposal batch b (c .decision) k q s
