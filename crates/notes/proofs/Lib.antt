@@ -1,1 +1,4 @@
 pub mod Bits
+pub mod Counting
+mod Labels
+mod Ranks

@@ -1,3 +1,4 @@
 pub mod Sets
 pub mod Models
 pub mod Kinds
+pub mod Places
