@@ -66,9 +66,9 @@ pigeonhole (suc n) zero f h apart = absurd (let l = h 0 (omega arith) in omega a
 pigeonhole (suc n) (suc m) f h apart =
     let free : (i : ℕ) → i < n → f i ≡ f n → ⊥ = λ i l e. let s = apart i n (omega arith) (omega arith) e in omega arith in
     let rest =
-      pigeonhole n m (instead f m (f n))
-      (instead-below f n m (f n) (λ i l. h i (omega arith)) free (h n (omega arith)))
-      (instead-apart f n m (f n) (λ i j a b. apart i j (omega arith) (omega arith)) free) in
+    pigeonhole n m (instead f m (f n))
+    (instead-below f n m (f n) (λ i l. h i (omega arith)) free (h n (omega arith)))
+    (instead-apart f n m (f n) (λ i j a b. apart i j (omega arith) (omega arith)) free) in
     omega arith
 
 -- Whether some number below n goes to k.
@@ -78,10 +78,10 @@ find f (suc n) k =
     ⊎-elim
     (λ r. inl (r .0, let l = r .1 in omega arith, r .2))
     (λ none.
-      ⊎-elim
-      (λ t. inl (n, omega arith, eqb-true (f n) k t))
-      (λ t. inr (λ i l e. ⊎-elim (λ s. eqb-false (f n) k t (ap f (sym (eqb-true i n s)) ∙ e)) (λ s. none i (let d = eqb-false i n s in omega (arith, d)) e) (cases-bool (eqb i n))))
-      (cases-bool (eqb (f n) k)))
+    ⊎-elim
+    (λ t. inl (n, omega arith, eqb-true (f n) k t))
+    (λ t. inr (λ i l e. ⊎-elim (λ s. eqb-false (f n) k t (ap f (sym (eqb-true i n s)) ∙ e)) (λ s. none i (let d = eqb-false i n s in omega (arith, d)) e) (cases-bool (eqb i n))))
+    (cases-bool (eqb (f n) k)))
     (find f n k)
 
 -- Numbers below n that go, apart, to numbers below n reach every one of them.
