@@ -1,6 +1,6 @@
 -- The carrier over any broadcast and any consensus: what each call answers and makes.
 use mathlib.Core.Path.{_≡_}
-use mathlib.Core.Bool.{Bool, true, false, cond, _&&_}
+use mathlib.Core.Bool.{Bool, true, false, cond, not, _&&_}
 use mathlib.Core.List.{List, []}
 use Prim.Native.Nat.{ℕ, zero, suc, _+_}
 use lib.Dec.{ltb, leb, eqb}
@@ -160,13 +160,9 @@ module _ {X Y : Type 0} (b : Broadcasts X) (c : Consensuses Y) where
   unfoldable pub proposer : Carrying b c → Option ℕ
   proposer s = lowestThat (λ p. eqb (proposeReply s p) 0) (cardCount s)
 
-  abbrev pub isNone : Option ℕ → Bool
-  isNone None = true
-  isNone (Some p) = false
-
   -- At rest: both wires are empty, and at no card would take or propose be accepted.
   unfoldable pub atRest : Carrying b c → Bool
-  atRest s = (eqb (length (b .wire (s .broadcast))) 0 && eqb (length (c .wire (s .consensus))) 0) && (isNone (taker s) && isNone (proposer s))
+  atRest s = (eqb (length (b .wire (s .broadcast))) 0 && eqb (length (c .wire (s .consensus))) 0) && (not (isSome (taker s)) && not (isSome (proposer s)))
 
   -- The first possible of: carry item 0 of the broadcast, carry item 0 of the consensus, take at the lowest card that can, propose at the lowest card that can.
   abbrev pub takeOrPropose : Carrying b c → Option ℕ → Option ℕ → Carrying b c
