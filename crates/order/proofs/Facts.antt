@@ -182,9 +182,19 @@ module _ {B C book : ℕ} {batch : ℕ → List ℕ} {b : BroadcastView} {c : Co
   pub instance-within-posts : (p : ℕ) → o .instance p ≤ posts b
   instance-within-posts p = omega (arith, taken-within-posts p (I .made p), long-enough p (I .made p))
 
-  -- The log that a take leaves.
-  pub fits : (p s : ℕ) → c .decision (o .instance p) p ≡ Some s → length (o .log p) + length (batch s) ≤ posts b
-  fits p s e = omega (arith, taken-within-posts p (one-more s (I .made p) e), length-append (o .log p) (batch s))
+  -- Whatever part of a decision a card takes, there are as many posts as its log then has notes.
+  pub fits-list : (p s : ℕ) (l : List ℕ) → c .decision (o .instance p) p ≡ Some s → NoneTwice l → ((m : ℕ) → among m l ≡ true → In s m)
+      → length (o .log p) + length l ≤ posts b
+  unfolding posts
+  fits-list p s l e once inside =
+      let v = LC .decisions-were-proposed (o .instance p) p s e in
+      let S = I .sound (o .instance p) (v .0) s (v .1) in
+      let new = λ (m : ℕ) (h : among m l ≡ true). batch-is-new p (o .instance p) s (o .log p) (I .made p) e m (inside m h) in
+      let all = pigeons (o .log p ++ l) (λ i. oneIf (b .poster i)) 32 (none-twice-append (o .log p) l (none-twice p (I .made p)) once new)
+            (λ i h. elim (or-cases (among i (o .log p)) (among i l) (sym (among-append i (o .log p) l) ∙ h)) [
+                inl k ↦ counted i (only-posted p i (I .made p) k)
+              | inr k ↦ counted i (handed-was-posted (v .0) i (S .handed i (inside i k))) ]) in
+      omega (arith, all, length-append (o .log p) l)
 
   proposed-within-posts : (p : ℕ) → o .instance p + oneIf (c .proposal (o .instance p) p) ≤ posts b
   proposed-within-posts p = go (c .proposal (o .instance p) p) refl
