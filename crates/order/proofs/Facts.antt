@@ -191,9 +191,10 @@ module _ {B C book : ℕ} {batch : ℕ → List ℕ} {b : BroadcastView} {c : Co
       let S = I .sound (o .instance p) (v .0) s (v .1) in
       let new = λ (m : ℕ) (h : among m l ≡ true). batch-is-new p (o .instance p) s (o .log p) (I .made p) e m (inside m h) in
       let all = pigeons (o .log p ++ l) (λ i. oneIf (b .poster i)) 32 (none-twice-append (o .log p) l (none-twice p (I .made p)) once new)
-            (λ i h. elim (or-cases (among i (o .log p)) (among i l) (sym (among-append i (o .log p) l) ∙ h)) [
-                inl k ↦ counted i (only-posted p i (I .made p) k)
-              | inr k ↦ counted i (handed-was-posted (v .0) i (S .handed i (inside i k))) ]) in
+      (λ i h. elim (or-cases (among i (o .log p)) (among i l) (sym (among-append i (o .log p) l) ∙ h)) [
+        | inl k ↦ counted i (only-posted p i (I .made p) k)
+        | inr k ↦ counted i (handed-was-posted (v .0) i (S .handed i (inside i k)))
+      ]) in
       omega (arith, all, length-append (o .log p) l)
 
   proposed-within-posts : (p : ℕ) → o .instance p + oneIf (c .proposal (o .instance p) p) ≤ posts b

@@ -14,7 +14,7 @@ use Rattle.std.proofs.shelf.Tests.{eqb-true, eqb-false, eq-eqb, ne-eqb, lt-ltb,
 use Rattle.std.proofs.shelf.Ways.{tells}
 use Rattle.notes.specs.Sets.{has, added, howMany}
 use Rattle.notes.proofs.Bits.{has-added}
-use Rattle.logs.specs.Orders.{withAll, inRankingOrder, RankingOrder}
+use Rattle.logs.specs.Orders.{withAll, noteAt, inRankingOrder, RankingOrder}
 use Rattle.logs.proofs.Batches.{passing}
 use Rattle.order.specs.Words.{In, among, NoneTwice}
 use Rattle.order.specs.Views.{Ranks}
@@ -34,8 +34,9 @@ among-at (x ∷ xs) (suc k) h = or-right (eqb (getD xs k 0) x) (among (getD xs k
 at-among : (l : List ℕ) (m : ℕ) → among m l ≡ true → (k : ℕ) × (k < length l) × (getD l k 0 ≡ m)
 at-among [] m h = absurd (both-ways false refl h)
 at-among (x ∷ xs) m h = elim (or-cases (eqb m x) (among m xs) h) [
-    inl e ↦ (0, omega arith, sym (eqb-true m x e))
-  | inr i ↦ let r = at-among xs m i in (suc (r .0), omega (arith, r .1), r .2) ]
+  | inl e ↦ (0, omega arith, sym (eqb-true m x e))
+  | inr i ↦ let r = at-among xs m i in (suc (r .0), omega (arith, r .1), r .2)
+]
 
 apart-once : (l : List ℕ) → ((j k : ℕ) → j < length l → k < length l → getD l j 0 ≡ getD l k 0 → j ≡ k) → NoneTwice l
 apart-once [] h = tt
@@ -49,8 +50,8 @@ few-ranked : {K : Type 0} (precedes : K → K → Bool) (book : List K) → leng
 unfolding inRankingOrder
 few-ranked precedes book = go (leb (length book) 32) refl
   where
-    go : (t : Bool) → leb (length book) 32 ≡ t → length (cond t (map _ (counting 0 (length book))) []) ≤ 32
-    go true e = let l : length book ≤ 32 = grind (arith, tells, e) in omega (arith, l, length-map-counting _ 0 (length book))
+    go : (t : Bool) → leb (length book) 32 ≡ t → length (cond t (map (noteAt precedes book) (counting 0 (length book))) []) ≤ 32
+    go true e = let l : length book ≤ 32 = grind (arith, tells, e) in omega (arith, l, length-map-counting (noteAt precedes book) 0 (length book))
     go false e = omega arith
 
 -- What the ranking promises of the order.
@@ -68,8 +69,9 @@ kept-sub test (x ∷ xs) m h = go (test x) refl h (kept-sub test xs m)
     go : (t : Bool) → test x ≡ t → among m (cond t (x ∷ kept-by test xs) (kept-by test xs)) ≡ true
         → (among m (kept-by test xs) ≡ true → (among m xs ≡ true) × (test m ≡ true)) → ((eqb m x || among m xs) ≡ true) × (test m ≡ true)
     go true e h r = elim (or-cases (eqb m x) (among m (kept-by test xs)) h) [
-        inl f ↦ (or-left (eqb m x) (among m xs) f, subst (λ y. test y ≡ true) (sym (eqb-true m x f)) e)
-      | inr f ↦ (or-right (eqb m x) (among m xs) (r f .0), r f .1) ]
+      | inl f ↦ (or-left (eqb m x) (among m xs) f, subst (λ y. test y ≡ true) (sym (eqb-true m x f)) e)
+      | inr f ↦ (or-right (eqb m x) (among m xs) (r f .0), r f .1)
+    ]
     go false e h r = (or-right (eqb m x) (among m xs) (r h .0), r h .1)
 
 kept-has : (test : ℕ → Bool) (l : List ℕ) (m : ℕ) → among m l ≡ true → test m ≡ true → among m (kept-by test l) ≡ true
@@ -78,11 +80,13 @@ kept-has test (x ∷ xs) m h e = go (test x) refl (λ f. kept-has test xs m f e)
   where
     go : (t : Bool) → test x ≡ t → (among m xs ≡ true → among m (kept-by test xs) ≡ true) → among m (cond t (x ∷ kept-by test xs) (kept-by test xs)) ≡ true
     go true f r = elim (or-cases (eqb m x) (among m xs) h) [
-        inl g ↦ or-left (eqb m x) (among m (kept-by test xs)) g
-      | inr g ↦ or-right (eqb m x) (among m (kept-by test xs)) (r g) ]
+      | inl g ↦ or-left (eqb m x) (among m (kept-by test xs)) g
+      | inr g ↦ or-right (eqb m x) (among m (kept-by test xs)) (r g)
+    ]
     go false f r = elim (or-cases (eqb m x) (among m xs) h) [
-        inl g ↦ absurd (both-ways (test x) f (subst (λ y. test y ≡ true) (eqb-true m x g) e))
-      | inr g ↦ r g ]
+      | inl g ↦ absurd (both-ways (test x) f (subst (λ y. test y ≡ true) (eqb-true m x g) e))
+      | inr g ↦ r g
+    ]
 
 kept-once : (test : ℕ → Bool) (l : List ℕ) → NoneTwice l → NoneTwice (kept-by test l)
 kept-once test [] h = tt
@@ -91,6 +95,7 @@ kept-once test (x ∷ xs) h = go (test x) (kept-once test xs (h .1))
     out : (t : Bool) → among x (kept-by test xs) ≡ t → among x (kept-by test xs) ≡ false
     out true e = absurd (both-ways (among x xs) (h .0) (kept-sub test xs x e .0))
     out false e = e
+
     go : (t : Bool) → NoneTwice (kept-by test xs) → NoneTwice (cond t (x ∷ kept-by test xs) (kept-by test xs))
     go true r = (out (among x (kept-by test xs)) refl, r)
     go false r = r
@@ -106,13 +111,15 @@ ranks order L = record {
 pub passing-in : (f : ℕ → Bool) (n m : ℕ) → among m (passing f n) ≡ true → (m < n) × (f m ≡ true)
 passing-in f zero m h = absurd (both-ways false refl h)
 passing-in f (suc n) m h = elim (or-cases (among m (passing f n)) (among m (cond (f n) (n ∷ []) [])) (sym (among-append m (passing f n) (cond (f n) (n ∷ []) [])) ∙ h)) [
-    inl i ↦ let r = passing-in f n m i in (omega (arith, r .0), r .1)
-  | inr i ↦ last (f n) refl i ]
+  | inl i ↦ let r = passing-in f n m i in (omega (arith, r .0), r .1)
+  | inr i ↦ last (f n) refl i
+]
   where
     last : (t : Bool) → f n ≡ t → among m (cond t (n ∷ []) []) ≡ true → (m < suc n) × (f m ≡ true)
     last true e i = elim (or-cases (eqb m n) false i) [
-        inl s ↦ let q = eqb-true m n s in (omega arith, ap f q ∙ e)
-      | inr z ↦ absurd (both-ways false refl z) ]
+      | inl s ↦ let q = eqb-true m n s in (omega arith, ap f q ∙ e)
+      | inr z ↦ absurd (both-ways false refl z)
+    ]
     last false e i = absurd (both-ways false refl i)
 
 pub passing-once : (f : ℕ → Bool) (n : ℕ) → NoneTwice (passing f n)
@@ -122,11 +129,14 @@ passing-once f (suc n) = none-twice-append (passing f n) (cond (f n) (n ∷ []) 
     one : (t : Bool) → NoneTwice (cond t (n ∷ []) [])
     one true = (refl, tt)
     one false = tt
+
     inside : (t : Bool) (m : ℕ) → among m (cond t (n ∷ []) []) ≡ true → m ≡ n
     inside true m h = elim (or-cases (eqb m n) false h) [
-        inl s ↦ eqb-true m n s
-      | inr z ↦ absurd (both-ways false refl z) ]
+      | inl s ↦ eqb-true m n s
+      | inr z ↦ absurd (both-ways false refl z)
+    ]
     inside false m h = absurd (both-ways false refl h)
+
     out : (m : ℕ) → m ≡ n → (among m (passing f n) ≡ true) ⊎ (among m (passing f n) ≡ false) → among m (passing f n) ≡ false
     out m e (inl t) = let r = passing-in f n m t in absurd (omega (arith, r .0))
     out m e (inr f) = f

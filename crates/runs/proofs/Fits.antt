@@ -7,7 +7,7 @@ use Prim.Native.Nat.{ℕ, zero, suc, _+_, _*_, _≤_, _<_}
 use native.Mathlib.Nat.{mul-le-mul-right}
 use native.Mathlib.Omega.{arith}
 use lib.Dec.{eqb, ltb}
-use lib.ListN.{length}
+use lib.ListN.{length, set}
 use Rattle.std.specs.Options.{isSome}
 use Rattle.std.specs.declared.option.Option.{Option}
 use Rattle.std.specs.declared.option.Option.the-variants.{Some, None}
@@ -18,12 +18,13 @@ use Rattle.parts.specs.Refusals.{postAnswer, carryAnswer, loseAnswer, crashAnsw
 use Rattle.parts.specs.Shown.{shown, told}
 use Rattle.parts.specs.declared.broadcast.Broadcast.{Ghosts as Broadcasts}
 use Rattle.parts.specs.declared.consensus.Consensus.{Ghosts as Consensuses}
+use Rattle.logs.specs.Orders.{numberIn, appended}
 use Rattle.logs.proofs.Lowest.{lowest-some}
 use Rattle.order.specs.Words.{sum, oneIf, stepBound}
 use Rattle.order.specs.Views.{posts}
 use Rattle.order.proofs.Lists.{sum-le}
 use Rattle.order.proofs.Facts.{within-bound}
-use Rattle.total_order.specs.Carrying.{Carrying, Reply, oneMore, ifAccepted, moved, counted, cardCount, instanceAt, waiting, postReply, posting, carrying, losing, crashing, suspecting, proposeReply, proposing, takeReply, taking, taker, proposer, atRest, takeOrPropose, advanced, settled, settleSteps}
+use Rattle.total_order.specs.Carrying.{Carrying, Reply, oneMore, ifAccepted, moved, counted, cardCount, logAt, instanceAt, decisionAt, waiting, postReply, posting, carrying, losing, crashing, suspecting, proposeReply, proposing, takeReply, taking, taker, proposer, atRest, takeOrPropose, advanced, settled, settleSteps}
 use Rattle.total_order.specs.Calls.{Told, toldBy, Outcome, outcome, calling}
 use Rattle.total_order.specs.declared.call.Call.{Call}
 use Rattle.total_order.specs.declared.call.Call.the-variants.{Post, Carry, Lose, Crash, Suspect, Propose, Take, Settle}
@@ -40,9 +41,10 @@ posts-same v w e = sum-le (λ m. oneIf (w .poster m)) (λ m. oneIf (v .poster m)
 sum-most : (f g : ℕ → ℕ) (n x : ℕ) → ((i : ℕ) → (i ≡ x → ⊥) → g i ≤ f i) → g x ≤ f x + 1 → sum g n ≤ sum f n + 1
 sum-most f g zero x h hx = omega arith
 sum-most f g (suc n) x h hx = elim (cases-eq n x) [
-    inl e ↦ let at : g n ≤ f n + 1 = subst (λ y. g y ≤ f y + 1) (sym e) hx in
+  | inl e ↦ let at : g n ≤ f n + 1 = subst (λ y. g y ≤ f y + 1) (sym e) hx in
       omega (arith, at, sum-le g f n (λ i l. h i (λ j. omega arith)))
-  | inr ne ↦ omega (arith, sum-most f g n x h hx, h n ne) ]
+  | inr ne ↦ omega (arith, sum-most f g n x h hx, h n ne)
+]
 
 one-most : (o : Option ℕ) → oneIf o ≤ 1
 one-most None = omega arith
@@ -102,56 +104,57 @@ module _ {X Y : Type 0} (b : Broadcasts X) (c : Consensuses Y) (M : Means b c) (
     fits-carry Broadcast i =
         let k = carryAnswer (shown b (s .broadcast) .net) i in
         subst (λ y. Tells t (withSteps 1 t) k (moved b c s (cond (eqb k 0) (b .carrying (s .broadcast) i) (s .broadcast)) y (counted b c s k))) (sym (same-cond (eqb k 0) (s .consensus)))
-          (by-answer k (withSteps 1 t) (b .carrying (s .broadcast) i) (s .consensus) (oneMore (s .steps)) (λ e.
-            let P = M .broadcast .carry-means (s .broadcast) i (G .broadcast-made) e in
-            told-same _ (good-carry-broadcast b c M s G i e) (P .net .same-cards .cards) (P .posters-stay) (P .net .same-cards .crashed) (P .net .same-cards .suspects) refl))
+        (by-answer k (withSteps 1 t) (b .carrying (s .broadcast) i) (s .consensus) (oneMore (s .steps)) (λ e.
+        let P = M .broadcast .carry-means (s .broadcast) i (G .broadcast-made) e in
+        told-same _ (good-carry-broadcast b c M s G i e) (P .net .same-cards .cards) (P .posters-stay) (P .net .same-cards .crashed) (P .net .same-cards .suspects) refl))
     fits-carry Consensus i =
         let k = carryAnswer (told c (s .consensus) .net) i in
         subst (λ x. Tells t (withSteps 1 t) k (moved b c s x (cond (eqb k 0) (c .carrying (s .consensus) i) (s .consensus)) (counted b c s k))) (sym (same-cond (eqb k 0) (s .broadcast)))
-          (by-answer k (withSteps 1 t) (s .broadcast) (c .carrying (s .consensus) i) (oneMore (s .steps)) (λ e.
-            told-same _ (good-carry-consensus b c M s G i e) refl (λ _. refl) (λ _. refl) (λ _ _. refl) refl))
+        (by-answer k (withSteps 1 t) (s .broadcast) (c .carrying (s .consensus) i) (oneMore (s .steps)) (λ e.
+        told-same _ (good-carry-consensus b c M s G i e) refl (λ _. refl) (λ _. refl) (λ _ _. refl) refl))
 
     fits-lose : (w : Wire) (i : ℕ) → Tells t (withSteps 1 t) (losing b c s w i .answer) (losing b c s w i .next)
     fits-lose Broadcast i =
         let k = loseAnswer (shown b (s .broadcast) .net) i in
         subst (λ y. Tells t (withSteps 1 t) k (moved b c s (cond (eqb k 0) (b .losing (s .broadcast) i) (s .broadcast)) y (counted b c s k))) (sym (same-cond (eqb k 0) (s .consensus)))
-          (by-answer k (withSteps 1 t) (b .losing (s .broadcast) i) (s .consensus) (oneMore (s .steps)) (λ e.
-            let P = M .broadcast .lose-means (s .broadcast) i (G .broadcast-made) e in
-            told-same _ (good-lose-broadcast b c M s G i e) (P .net .same-cards .cards) (P .posters-stay) (P .net .same-cards .crashed) (P .net .same-cards .suspects) refl))
+        (by-answer k (withSteps 1 t) (b .losing (s .broadcast) i) (s .consensus) (oneMore (s .steps)) (λ e.
+        let P = M .broadcast .lose-means (s .broadcast) i (G .broadcast-made) e in
+        told-same _ (good-lose-broadcast b c M s G i e) (P .net .same-cards .cards) (P .posters-stay) (P .net .same-cards .crashed) (P .net .same-cards .suspects) refl))
     fits-lose Consensus i =
         let k = loseAnswer (told c (s .consensus) .net) i in
         subst (λ x. Tells t (withSteps 1 t) k (moved b c s x (cond (eqb k 0) (c .losing (s .consensus) i) (s .consensus)) (counted b c s k))) (sym (same-cond (eqb k 0) (s .broadcast)))
-          (by-answer k (withSteps 1 t) (s .broadcast) (c .losing (s .consensus) i) (oneMore (s .steps)) (λ e.
-            told-same _ (good-lose-consensus b c M s G i e) refl (λ _. refl) (λ _. refl) (λ _ _. refl) refl))
+        (by-answer k (withSteps 1 t) (s .broadcast) (c .losing (s .consensus) i) (oneMore (s .steps)) (λ e.
+        told-same _ (good-lose-consensus b c M s G i e) refl (λ _. refl) (λ _. refl) (λ _ _. refl) refl))
 
     fits-propose : (p : ℕ) → Tells t (withSteps 1 t) (proposing b c s p .answer) (proposing b c s p .next)
     fits-propose p =
         let k = proposeReply b c s p in
         let y = c .proposing (s .consensus) (instanceAt b c s p) p (waiting b c s p) in
         subst (λ x. Tells t (withSteps 1 t) k (moved b c s x (cond (eqb k 0) y (s .consensus)) (counted b c s k))) (sym (same-cond (eqb k 0) (s .broadcast)))
-          (by-answer k (withSteps 1 t) (s .broadcast) y (oneMore (s .steps)) (λ e. told-same _ (good-propose b c M s G p e) refl (λ _. refl) (λ _. refl) (λ _ _. refl) refl))
+        (by-answer k (withSteps 1 t) (s .broadcast) y (oneMore (s .steps)) (λ e. told-same _ (good-propose b c M s G p e) refl (λ _. refl) (λ _. refl) (λ _ _. refl) refl))
 
     fits-take : (p : ℕ) → Tells t (withSteps 1 t) (taking b c s p .answer) (taking b c s p .next)
     fits-take p = go (eqb (takeReply b c s p) 0) refl
       where
         go : (e : Bool) → eqb (takeReply b c s p) 0 ≡ e → Fits b c n (cond e (withSteps 1 t) t) (record {
-            broadcast = s .broadcast;
-            consensus = s .consensus;
-            order = s .order;
-            logs = cond e _ (s .logs);
-            instances = cond e _ (s .instances);
-            steps = cond e (oneMore (s .steps)) (s .steps);
-          })
+          broadcast = s .broadcast;
+          consensus = s .consensus;
+          order = s .order;
+          logs = cond e (set (s .logs) p (appended (s .order) (logAt b c s p) (numberIn (decisionAt b c s p)))) (s .logs);
+          instances = cond e (set (s .instances) p (oneMore (instanceAt b c s p))) (s .instances);
+          steps = cond e (oneMore (s .steps)) (s .steps);
+        })
         go true e = told-same _ (good-take b c M s G p (eqb-true (takeReply b c s p) 0 e)) refl (λ _. refl) (λ _. refl) (λ _ _. refl) refl
         go false e = F
 
     post-both : (p m : ℕ) → postReply b c s p m ≡ 0 → (m < length (s .order)) × (postAnswer (shown b (s .broadcast)) p m ≡ 0)
     post-both p m e = go (ltb m (length (s .order))) refl e
       where
-        never : (x y : Bool) → cond x (cond y 2 3) 1 ≡ 0 → ⊥
+        never : (x y : Bool) → _≡_ {A = ℕ} (cond x (cond y 2 3) 1) 0 → ⊥
         never true true h = omega arith
         never true false h = omega arith
         never false y h = omega arith
+
         go : (x : Bool) → ltb m (length (s .order)) ≡ x → cond x (postAnswer (shown b (s .broadcast)) p m) (actingAnswer (shown b (s .broadcast) .net) p 3) ≡ 0
             → (m < length (s .order)) × (postAnswer (shown b (s .broadcast)) p m ≡ 0)
         go true h z = (ltb-true m (length (s .order)) h, z)
@@ -162,19 +165,19 @@ module _ {X Y : Type 0} (b : Broadcasts X) (c : Consensuses Y) (M : Means b c) (
         let k = postReply b c s p m in
         let x = b .posting (s .broadcast) p m in
         subst (λ y. Tells t (withPost p m t) k (moved b c s (cond (eqb k 0) x (s .broadcast)) y (s .steps))) (sym (same-cond (eqb k 0) (s .consensus)))
-          (subst (λ z. Tells t (withPost p m t) k (moved b c s (cond (eqb k 0) x (s .broadcast)) (cond (eqb k 0) (s .consensus) (s .consensus)) z)) (sym (same-cond (eqb k 0) (s .steps)))
-            (by-answer k (withPost p m t) x (s .consensus) (s .steps) (λ e.
-              let f = post-both p m e in
-              let P = M .broadcast .post-means (s .broadcast) p m (G .broadcast-made) (f .1) in
-              record {
-                good = good-post b c M s G p m (f .0) (f .1);
-                cards = P .same-cards .cards ∙ F .cards;
-                poster = λ j. P .post-stands j ∙ ap (λ o. cond (eqb j m) (Some p) o) (F .poster j);
-                crashed = λ q. P .same-cards .crashed q ∙ F .crashed q;
-                suspects = λ x y. P .same-cards .suspects x y ∙ F .suspects x y;
-                posts = omega (arith, F .posts, posts-one (shown b (s .broadcast)) (shown b (b .posting (s .broadcast) p m)) p m (P .post-stands));
-                steps = F .steps;
-              })))
+        (subst (λ z. Tells t (withPost p m t) k (moved b c s (cond (eqb k 0) x (s .broadcast)) (cond (eqb k 0) (s .consensus) (s .consensus)) z)) (sym (same-cond (eqb k 0) (s .steps)))
+        (by-answer k (withPost p m t) x (s .consensus) (s .steps) (λ e.
+        let f = post-both p m e in
+        let P = M .broadcast .post-means (s .broadcast) p m (G .broadcast-made) (f .1) in
+        record {
+          good = good-post b c M s G p m (f .0) (f .1);
+          cards = P .same-cards .cards ∙ F .cards;
+          poster = λ j. P .post-stands j ∙ ap (λ o. cond (eqb j m) (Some p) o) (F .poster j);
+          crashed = λ q. P .same-cards .crashed q ∙ F .crashed q;
+          suspects = λ x y. P .same-cards .suspects x y ∙ F .suspects x y;
+          posts = omega (arith, F .posts, posts-one (shown b (s .broadcast)) (shown b (b .posting (s .broadcast) p m)) p m (P .post-stands));
+          steps = F .steps;
+        })))
 
     fits-crash : (p : ℕ) → Tells t (withCrash p t) (crashing b c s p .answer) (crashing b c s p .next)
     fits-crash p =
@@ -182,18 +185,18 @@ module _ {X Y : Type 0} (b : Broadcasts X) (c : Consensuses Y) (M : Means b c) (
         let x = b .crashing (s .broadcast) p in
         let y = cond (eqb (crashAnswer (told c (s .consensus) .net) p) 0) (c .crashing (s .consensus) p) (s .consensus) in
         subst (λ z. Tells t (withCrash p t) k (moved b c s (cond (eqb k 0) x (s .broadcast)) (cond (eqb k 0) y (s .consensus)) z)) (sym (same-cond (eqb k 0) (s .steps)))
-          (by-answer k (withCrash p t) x y (s .steps) (λ e.
-            let P = M .broadcast .crash-means (s .broadcast) p (G .broadcast-made) e in
-            let E = cond-true _ (c .crashing (s .consensus) p) (s .consensus) (eq-eqb _ 0 (crash-both b c M s G p e)) in
-            subst (λ y. Fits b c n (withCrash p t) (moved b c s x y (s .steps))) (sym E) (record {
-              good = good-crash b c M s G p e;
-              cards = P .net .cards ∙ F .cards;
-              poster = λ j. P .posters-stay j ∙ F .poster j;
-              crashed = λ q. P .net .crash-stands q ∙ ap (λ x. eqb q p || x) (F .crashed q);
-              suspects = λ x y. P .net .suspects x y ∙ F .suspects x y;
-              posts = omega (arith, F .posts, posts-same (shown b (s .broadcast)) (shown b (b .crashing (s .broadcast) p)) (P .posters-stay));
-              steps = F .steps;
-            })))
+        (by-answer k (withCrash p t) x y (s .steps) (λ e.
+        let P = M .broadcast .crash-means (s .broadcast) p (G .broadcast-made) e in
+        let E = cond-true _ (c .crashing (s .consensus) p) (s .consensus) (eq-eqb _ 0 (crash-both b c M s G p e)) in
+        subst (λ y. Fits b c n (withCrash p t) (moved b c s x y (s .steps))) (sym E) (record {
+          good = good-crash b c M s G p e;
+          cards = P .net .cards ∙ F .cards;
+          poster = λ j. P .posters-stay j ∙ F .poster j;
+          crashed = λ q. P .net .crash-stands q ∙ ap (λ x. eqb q p || x) (F .crashed q);
+          suspects = λ x y. P .net .suspects x y ∙ F .suspects x y;
+          posts = omega (arith, F .posts, posts-same (shown b (s .broadcast)) (shown b (b .crashing (s .broadcast) p)) (P .posters-stay));
+          steps = F .steps;
+        })))
 
     fits-suspect : (q p : ℕ) → Tells t (withSuspicion q p t) (suspecting b c s q p .answer) (suspecting b c s q p .next)
     fits-suspect q p =
@@ -201,18 +204,18 @@ module _ {X Y : Type 0} (b : Broadcasts X) (c : Consensuses Y) (M : Means b c) (
         let x = b .suspecting (s .broadcast) q p in
         let y = cond (eqb (suspectAnswer (told c (s .consensus) .net) q p) 0) (c .suspecting (s .consensus) q p) (s .consensus) in
         subst (λ z. Tells t (withSuspicion q p t) k (moved b c s (cond (eqb k 0) x (s .broadcast)) (cond (eqb k 0) y (s .consensus)) z)) (sym (same-cond (eqb k 0) (s .steps)))
-          (by-answer k (withSuspicion q p t) x y (s .steps) (λ e.
-            let P = M .broadcast .suspect-means (s .broadcast) q p (G .broadcast-made) e in
-            let E = cond-true _ (c .suspecting (s .consensus) q p) (s .consensus) (eq-eqb _ 0 (suspect-both b c M s G q p e)) in
-            subst (λ y. Fits b c n (withSuspicion q p t) (moved b c s x y (s .steps))) (sym E) (record {
-              good = good-suspect b c M s G q p e;
-              cards = P .net .cards ∙ F .cards;
-              poster = λ j. P .posters-stay j ∙ F .poster j;
-              crashed = λ x. P .net .crashed x ∙ F .crashed x;
-              suspects = λ x y. P .net .suspicion-stands x y ∙ ap (λ z. (eqb x q && eqb y p) || z) (F .suspects x y);
-              posts = omega (arith, F .posts, posts-same (shown b (s .broadcast)) (shown b (b .suspecting (s .broadcast) q p)) (P .posters-stay));
-              steps = F .steps;
-            })))
+        (by-answer k (withSuspicion q p t) x y (s .steps) (λ e.
+        let P = M .broadcast .suspect-means (s .broadcast) q p (G .broadcast-made) e in
+        let E = cond-true _ (c .suspecting (s .consensus) q p) (s .consensus) (eq-eqb _ 0 (suspect-both b c M s G q p e)) in
+        subst (λ y. Fits b c n (withSuspicion q p t) (moved b c s x y (s .steps))) (sym E) (record {
+          good = good-suspect b c M s G q p e;
+          cards = P .net .cards ∙ F .cards;
+          poster = λ j. P .posters-stay j ∙ F .poster j;
+          crashed = λ x. P .net .crashed x ∙ F .crashed x;
+          suspects = λ x y. P .net .suspicion-stands x y ∙ ap (λ z. (eqb x q && eqb y p) || z) (F .suspects x y);
+          posts = omega (arith, F .posts, posts-same (shown b (s .broadcast)) (shown b (b .suspecting (s .broadcast) q p)) (P .posters-stay));
+          steps = F .steps;
+        })))
 
     pub steps-bounded : s .steps ≤ stepBound (t .posts) n (b .bound) (c .bound)
     steps-bounded = subst (λ x. s .steps ≤ stepBound (t .posts) x (b .bound) (c .bound)) (F .cards)
@@ -241,10 +244,12 @@ module _ {X Y : Type 0} (b : Broadcasts X) (c : Consensuses Y) (M : Means b c) (
             let z = eqb-true (proposeReply b c s q) 0 (lowest-some (λ p. eqb (proposeReply b c s p) 0) (cardCount b c s) q k .1) in
             accepted (withSteps 1 t) (proposeReply b c s q) _ z (fits-propose q)
         four None h None k i j = absurd (both-ways (atRest b c s) e (and-from _ _ (and-from _ _ i j) (and-from _ _ (ap (λ o. not (isSome o)) h) (ap (λ o. not (isSome o)) k))))
+
         two : (x : Bool) → ltb 0 (length (c .wire (s .consensus))) ≡ x → eqb (length (b .wire (s .broadcast))) 0 ≡ true
             → Fits b c n (withSteps 1 t) (cond x (carrying b c s Consensus 0 .next) (takeOrPropose b c s (taker b c s) (proposer b c s)))
         two true h i = let z = first-item (c .wire (s .consensus)) h in accepted (withSteps 1 t) (carryAnswer (told c (s .consensus) .net) 0) _ z (fits-carry Consensus 0)
         two false h i = four (taker b c s) refl (proposer b c s) refl i (no-item (c .wire (s .consensus)) h)
+
         one : (x : Bool) → ltb 0 (length (b .wire (s .broadcast))) ≡ x
             → Fits b c n (withSteps 1 t) (cond x (carrying b c s Broadcast 0 .next) (cond (ltb 0 (length (c .wire (s .consensus)))) (carrying b c s Consensus 0 .next) (takeOrPropose b c s (taker b c s) (proposer b c s))))
         one true h = let z = first-item (b .wire (s .broadcast)) h in accepted (withSteps 1 t) (carryAnswer (shown b (s .broadcast) .net) 0) _ z (fits-carry Broadcast 0)

@@ -202,12 +202,12 @@ module _ {X Y : Type 0} (b : Broadcasts X) (c : Consensuses Y) (M : Means b c) w
     pub good-crash : (p : ℕ) → crashAnswer (v .net) p ≡ 0 → Good b c (moved b c s (b .crashing (s .broadcast) p) (c .crashing (s .consensus) p) (s .steps))
     good-crash p e = let f = crash-both p e in
         keeps _ _ _ (M .broadcast .crash-made (s .broadcast) p (G .broadcast-made) e) (M .consensus .crash-made (s .consensus) p (G .consensus-made) f)
-          (crash p (M .broadcast .crash-means (s .broadcast) p (G .broadcast-made) e) (M .consensus .crash-means (s .consensus) p (G .consensus-made) f))
+        (crash p (M .broadcast .crash-means (s .broadcast) p (G .broadcast-made) e) (M .consensus .crash-means (s .consensus) p (G .consensus-made) f))
 
     pub good-suspect : (q p : ℕ) → suspectAnswer (v .net) q p ≡ 0 → Good b c (moved b c s (b .suspecting (s .broadcast) q p) (c .suspecting (s .consensus) q p) (s .steps))
     good-suspect q p e = let f = suspect-both q p e in
         keeps _ _ _ (M .broadcast .suspect-made (s .broadcast) q p (G .broadcast-made) e) (M .consensus .suspect-made (s .consensus) q p (G .consensus-made) f)
-          (suspect q p (M .broadcast .suspect-means (s .broadcast) q p (G .broadcast-made) e) (M .consensus .suspect-means (s .consensus) q p (G .consensus-made) f))
+        (suspect q p (M .broadcast .suspect-means (s .broadcast) q p (G .broadcast-made) e) (M .consensus .suspect-means (s .consensus) q p (G .consensus-made) f))
 
     pub proposed : (p : ℕ) → proposeReply b c s p ≡ 0 → proposeAnswer w (instanceAt b c s p) p (waiting b c s p) ≡ 0
     proposed p e = go (ltb p (cardCount b c s)) e
@@ -222,26 +222,26 @@ module _ {X Y : Type 0} (b : Broadcasts X) (c : Consensuses Y) (M : Means b c) w
         let u = waiting b c s p in
         let f = proposed p e in
         keeps _ _ _ (G .broadcast-made) (M .consensus .propose-made (s .consensus) i p u (G .consensus-made) (waiting-fits p) f)
-          (propose p u (waits p (propose-accepted w i p u f .4)) f (M .consensus .propose-means (s .consensus) i p u (G .consensus-made) (waiting-fits p) f) tick)
+        (propose p u (waits p (propose-accepted w i p u f .4)) f (M .consensus .propose-means (s .consensus) i p u (G .consensus-made) (waiting-fits p) f) tick)
 
     pub taken-by : (p : ℕ) → takeReply b c s p ≡ 0 → Runs (v .net) p × (decisionAt b c s p ≡ Some (numberIn (decisionAt b c s p)))
     taken-by p e = go (ltb p (cardCount b c s)) refl (b .crashed (s .broadcast) p) refl (decisionAt b c s p) refl e
       where
         go : (t : Bool) → ltb p (cardCount b c s) ≡ t → (u : Bool) → b .crashed (s .broadcast) p ≡ u → (o : Option ℕ) → decisionAt b c s p ≡ o
-            → cond t (cond u 2 (cond (isSome o) 0 10)) 1 ≡ 0 → Runs (v .net) p × (o ≡ Some (numberIn o))
+            → _≡_ {A = ℕ} (cond t (cond u 2 (cond (isSome o) 0 10)) 1) 0 → Runs (v .net) p × (o ≡ Some (numberIn o))
         go true h false k (Some x) i z = (record { card = omega (arith, ltb-true p (cardCount b c s) h, count-is); up = k }, refl)
         go true h false k None i z = absurd (omega arith)
         go true h true k o i z = absurd (omega arith)
         go false h u k o i z = absurd (omega arith)
 
     pub good-take : (p : ℕ) → takeReply b c s p ≡ 0 → Good b c (record {
-        broadcast = s .broadcast;
-        consensus = s .consensus;
-        order = s .order;
-        logs = set (s .logs) p (appended (s .order) (logAt b c s p) (numberIn (decisionAt b c s p)));
-        instances = set (s .instances) p (oneMore (instanceAt b c s p));
-        steps = oneMore (s .steps);
-      })
+      broadcast = s .broadcast;
+      consensus = s .consensus;
+      order = s .order;
+      logs = set (s .logs) p (appended (s .order) (logAt b c s p) (numberIn (decisionAt b c s p)));
+      instances = set (s .instances) p (oneMore (instanceAt b c s p));
+      steps = oneMore (s .steps);
+    })
     good-take p e =
         let d = numberIn (decisionAt b c s p) in
         let f = taken-by p e in

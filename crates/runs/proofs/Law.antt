@@ -54,16 +54,21 @@ module _ {X Y : Type 0} (b : Broadcasts X) (c : Consensuses Y) (M : Means b c) (
     where
       parts : ((eqb (length (b .wire (s .broadcast))) 0 && eqb (length (c .wire (s .consensus))) 0) ≡ true) × ((not (isSome (taker b c s)) && not (isSome (proposer b c s))) ≡ true)
       parts = and-parts _ _ e
+
       wires : (eqb (length (b .wire (s .broadcast))) 0 ≡ true) × (eqb (length (c .wire (s .consensus))) 0 ≡ true)
       wires = and-parts _ _ (parts .0)
+
       calls : (not (isSome (taker b c s)) ≡ true) × (not (isSome (proposer b c s)) ≡ true)
       calls = and-parts _ _ (parts .1)
+
       card : (p : ℕ) → Runs (shown b (s .broadcast) .net) p → p < cardCount b c s
       card p r = omega (arith, r .card, count-is b c M s G)
+
       no-take : (p : ℕ) → Runs (shown b (s .broadcast) .net) p → (x : Bool) → isSome (decisionAt b c s p) ≡ x → isSome (decisionAt b c s p) ≡ false
       no-take p r false h = h
       no-take p r true h = absurd (eqb-false (takeReply b c s p) 0 (lowest-none (λ p. eqb (takeReply b c s p) 0) (cardCount b c s) (none-of (taker b c s) (calls .0)) p (card p r))
           (cond-true _ _ 1 (lt-ltb p (cardCount b c s) (card p r)) ∙ cond-false _ 2 _ (r .up) ∙ cond-true _ 0 10 h))
+
       proposal : (p m : ℕ) → Runs (shown b (s .broadcast) .net) p → In (b .handed (s .broadcast) p) m → among m (logAt b c s p) ≡ false
           → (x : Bool) → isSome (c .proposal (s .consensus) (instanceAt b c s p) p) ≡ x → isSome (c .proposal (s .consensus) (instanceAt b c s p) p) ≡ true
       proposal p m r h out true i = i
@@ -74,8 +79,8 @@ module _ {X Y : Type 0} (b : Broadcasts X) (c : Consensuses Y) (M : Means b c) (
           let net = G .consistent .net in
           let there : p < c .cards (s .consensus) = omega (arith, r .card, net .cards) in
           absurd (eqb-false (proposeReply b c s p) 0 (lowest-none (λ p. eqb (proposeReply b c s p) 0) (cardCount b c s) (none-of (proposer b c s) (calls .1)) p (card p r))
-            (cond-true _ _ 1 (lt-ltb p (cardCount b c s) (card p r)) ∙ cond-true _ _ 1 (lt-ltb p (c .cards (s .consensus)) there) ∙ cond-false _ 2 _ (net .crashed p ∙ r .up) ∙ cond-false _ 8 _ i
-              ∙ cond-true _ 0 9 (and-from _ _ (lt-ltb (instanceAt b c s p) 32 early) (lt-ltb 0 (waiting b c s p) (omega (arith, some))))))
+          (cond-true _ _ 1 (lt-ltb p (cardCount b c s) (card p r)) ∙ cond-true _ _ 1 (lt-ltb p (c .cards (s .consensus)) there) ∙ cond-false _ 2 _ (net .crashed p ∙ r .up) ∙ cond-false _ 8 _ i
+          ∙ cond-true _ 0 9 (and-from _ _ (lt-ltb (instanceAt b c s p) 32 early) (lt-ltb 0 (waiting b c s p) (omega (arith, some))))))
 
   runs : (p : ℕ) → Running n t p → Runs (shown b (s .broadcast) .net) p
   runs p u = record { card = omega (arith, u .card, F .cards); up = F .crashed p ∙ u .up }

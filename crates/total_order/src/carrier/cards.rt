@@ -1,10 +1,15 @@
 // What the carrier shows of its cards, and which of them can propose or take.
 ghost use mathlib.Core.Path.{_≡_};
+ghost use mathlib.Core.Bool.{true};
 ghost use mathlib.Core.List.{List, []};
 ghost use Prim.Native.Nat.{ℕ, _<_, _≤_};
 ghost use lib.ListN.{getD};
 ghost use Rattle.std.specs.Vec.{made as succeeded};
+ghost use Rattle.std.specs.Orderings.{Decides};
 ghost use Rattle.notes.specs.Models.{bits};
+ghost use Rattle.parts.specs.Views.{Quiet};
+ghost use Rattle.parts.specs.Shown.{shown};
+ghost use Rattle.parts.specs.Broadcasting.{UniformAgreement};
 ghost use Rattle.parts.specs.Refusals.{answered};
 ghost use Rattle.logs.specs.Orders.{numberIn};
 ghost use Rattle.logs.specs.Models.{listOf};
@@ -16,6 +21,7 @@ use notes::set::NoteSet;
 use parts::broadcast::Broadcast;
 use parts::consensus::Consensus;
 use parts::refusal::Refusal;
+use parts::uniform::Uniform;
 
 impl<B: Broadcast, C: Consensus> Carrier<B, C> {
     // How many cards there are.
@@ -97,5 +103,15 @@ impl<B: Broadcast, C: Consensus> Carrier<B, C> {
             Some(notes) => Ok(notes),
             None => Err(Refusal::NothingDecided),
         }
+    }
+}
+
+impl<B: Uniform, C: Consensus> Carrier<B, C> {
+    // Whether the broadcast is quiet: nothing is under way in it, and every running card suspects every crashed one.
+    pub fn is_quiet(&self) -> bool
+        ensures answer { λ r. ⌜ Decides r (Quiet (shown B·Broadcast (model B·Broadcast C·Consensus (now (self .entry)) .broadcast) .net)) ⌝ }
+        ensures agreed { λ r. ⌜ (r ≡ true → B·Broadcast .made (model B·Broadcast C·Consensus (now (self .entry)) .broadcast) → UniformAgreement (shown B·Broadcast (model B·Broadcast C·Consensus (now (self .entry)) .broadcast))) ⌝ }
+    {
+        self.broadcast.is_quiet()
     }
 }
