@@ -15,7 +15,6 @@ use Rattle.std.proofs.shelf.Ways.{tells}
 use Rattle.notes.specs.Sets.{has}
 use Rattle.notes.proofs.Bits.{has-none}
 use Rattle.parts.specs.Views.{BroadcastView, Runs, FullSuspicion}
-use Rattle.parts.specs.Broadcasting.{UniformAgreement}
 use Rattle.parts.specs.Refusals.{proposeAnswer}
 use Rattle.parts.specs.Shown.{shown, told}
 use Rattle.parts.proofs.Options.{some-held, none-held}
@@ -30,7 +29,7 @@ use Rattle.total_order.specs.Carrying.{Carrying, fresh, cardsOf, cardCount, log
 use Rattle.total_order.specs.declared.call.Call.{Call}
 use Rattle.runs.specs.Runs.{leftBy, answersTo}
 use Rattle.runs.specs.Tally.{Tally, nothing, tally}
-use Rattle.runs.specs.Law.{Running, AllCrashesSuspected, NoGuardBites, OneOrder, CrashedLogsBeginRunningOnes}
+use Rattle.runs.specs.Law.{Running, AllCrashesSuspected, NoGuardBites, OneOrder}
 use Rattle.runs.proofs.Batches.{Listed}
 use Rattle.runs.proofs.Good.{Means, ledger, Good, good-new, LB, LC, R, few-steps, few-instances, count-is, waiting-is, instance-for-waiting, room-for-decision}
 use Rattle.runs.proofs.Fits.{Fits, fits-calls, steps-bounded, large-settle}
@@ -110,11 +109,9 @@ module _ {X Y : Type 0} (b : Broadcasts X) (c : Consensuses Y) (M : Means b c) (
       instance-for-waiting-notes = instance-for-waiting b c M s G;
       room-for-decision = room-for-decision b c M s G;
     };
+    broadcast-quiet-at-rest = λ e k. record { empty = rests e .broadcast-empty; known = suspected k };
+    crashed-logs-where-agreed = λ U e k p q u. O .crashed-logs-begin-running-ones (rests e) (suspected k) U p q (runs q u);
   }
-
-  -- The promise of the question of a uniform broadcast gives the rest.
-  pub uniformly : UniformAgreement (shown b (s .broadcast)) → CrashedLogsBeginRunningOnes b c n t s
-  uniformly U e k p q u = O .crashed-logs-begin-running-ones (rests e) (suspected k) U p q (runs q u)
 
 no-posts : (v : BroadcastView) → ((m : ℕ) → v .poster m ≡ None) → posts v ≤ 0
 unfolding posts

@@ -8,6 +8,8 @@ use lib.Count.{ones}
 use lib.ListN.{length}
 use Rattle.std.specs.declared.option.Option.the-variants.{Some}
 use Rattle.notes.specs.Sets.{has}
+use Rattle.parts.specs.Views.{Quiet}
+use Rattle.parts.specs.Broadcasting.{UniformAgreement}
 use Rattle.parts.specs.Nets.{SameCards}
 use Rattle.parts.specs.Shown.{shown, told}
 use Rattle.parts.specs.declared.broadcast.Broadcast.{Ghosts as Broadcasts}
@@ -35,6 +37,10 @@ pub record NoGuardBites {X Y : Type 0} (b : Broadcasts X) (c : Consensuses Y) (s
   pub instance-for-waiting-notes : (p m : ℕ) → has (waiting b c s p) m ≡ true → instanceAt b c s p < 32
   pub room-for-decision : (p d : ℕ) → decisionAt b c s p ≡ Some d → length (logAt b c s p) + ones d ≤ 32
 
+-- Over a uniform broadcast: a crashed card's log, too, begins that of each running card.
+abbrev pub CrashedLogsBeginRunningOnes : {X Y : Type 0} (b : Broadcasts X) (c : Consensuses Y) (n : ℕ) (t : Tally) (s : Carrying b c) → Type 0
+CrashedLogsBeginRunningOnes b c n t s = atRest b c s ≡ true → AllCrashesSuspected n t → (p q : ℕ) → Running n t q → Begins (logAt b c s p) (logAt b c s q)
+
 -- What holds of a carrier with n cards, by what the accepted calls tell.
 pub record OneOrder {X Y : Type 0} (b : Broadcasts X) (c : Consensuses Y) (n : ℕ) (t : Tally) (s : Carrying b c) : Type 0 where
   pub one-log-begins-the-other : (p q : ℕ) → Begins (logAt b c s p) (logAt b c s q) ⊎ Begins (logAt b c s q) (logAt b c s p)
@@ -49,7 +55,6 @@ pub record OneOrder {X Y : Type 0} (b : Broadcasts X) (c : Consensuses Y) (n : �
   -- A settle whose limit is at least the bound less the steps made so far ends at rest.
   pub large-settle-rests : (limit : ℕ) → stepBound (t .posts) n (b .bound) (c .bound) ≤ s .steps + limit → atRest b c (settled b c limit s) ≡ true
   pub no-guard-bites : NoGuardBites b c s
-
--- Over a uniform broadcast: a crashed card's log, too, begins that of each running card.
-abbrev pub CrashedLogsBeginRunningOnes : {X Y : Type 0} (b : Broadcasts X) (c : Consensuses Y) (n : ℕ) (t : Tally) (s : Carrying b c) → Type 0
-CrashedLogsBeginRunningOnes b c n t s = atRest b c s ≡ true → AllCrashesSuspected n t → (p q : ℕ) → Running n t q → Begins (logAt b c s p) (logAt b c s q)
+  -- Rest under full suspicion is quiet for the broadcast; and where what it has handed agrees uniformly, crashed logs begin running ones.
+  pub broadcast-quiet-at-rest : atRest b c s ≡ true → AllCrashesSuspected n t → Quiet (shown b (s .broadcast) .net)
+  pub crashed-logs-where-agreed : UniformAgreement (shown b (s .broadcast)) → CrashedLogsBeginRunningOnes b c n t s

@@ -41,6 +41,7 @@ pub fn run<K: Kind, B: Broadcast + Drop, C: Consensus + Drop>(
 ) -> Result<RunEnd<B, C>, AllocError>
     ensures carrier { λ r. ⌜ succeeded r (λ k. model B·Broadcast C·Consensus (k .carrier) ≡ leftBy B·Broadcast C·Consensus (fresh B·Broadcast C·Consensus (cardsOf cards (length (now (book .entry)))) (inRankingOrder (K·Kind .precedes) (now (book .entry)))) (now (calls .entry))) ⌝ }
     ensures answers { λ r. ⌜ succeeded r (λ k. map toldOf (vec-items (k .answers)) ≡ answersTo B·Broadcast C·Consensus (fresh B·Broadcast C·Consensus (cardsOf cards (length (now (book .entry)))) (inRankingOrder (K·Kind .precedes) (now (book .entry)))) (now (calls .entry))) ⌝ }
+    ensures made { λ r. ⌜ succeeded r (λ k. B·Broadcast .made (model B·Broadcast C·Consensus (k .carrier) .broadcast)) ⌝ }
     ensures order { λ r. ⌜ succeeded r (λ k. OneOrder B·Broadcast C·Consensus (cardsOf cards (length (now (book .entry)))) (tally (now (calls .entry)) (map toldOf (vec-items (k .answers)))) (model B·Broadcast C·Consensus (k .carrier))) ⌝ }
 {
     let mut answers = Vec::with_capacity(heap, calls.len())?;

@@ -90,5 +90,6 @@ returns g c =
     record {
       carrier = left;
       answers = told;
+      made = subst (λ (z : Carrying b d). b .made (z .broadcast)) (sym left) (F .good .broadcast-made);
       order = subst (λ answers. OneOrder b d n (tally xs answers) s) (sym told) (subst (λ z. OneOrder b d n (tally xs (answersTo b d new xs)) z) (sym left) O);
     }

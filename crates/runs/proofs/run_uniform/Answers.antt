@@ -1,17 +1,14 @@
-use mathlib.Core.Path.{_≡_, refl, sym, ap, subst, _∙_}
-use mathlib.Core.Bool.{true}
-use mathlib.Core.List.{map}
-use Prim.Native.Nat.{ℕ}
-use lib.ListN.{length}
-use Rattle.std.specs.Of.Vec.{vec-items}
-use Rattle.logs.specs.Orders.{inRankingOrder}
-use Rattle.total_order.specs.Calls.{toldOf}
-use Rattle.total_order.specs.Carrying.{Carrying, fresh, cardsOf}
-use Rattle.total_order.specs.Models.{model}
-use Rattle.runs.specs.Law.{OneOrder, CrashedLogsBeginRunningOnes}
 use Rattle.runs.proofs.run_uniform.Needs as need
 
+-- At rest under full suspicion the broadcast is quiet, so the question is answered yes, and its promise holds.
 pub returns : need.returns
 returns g c =
     let h = c .in-Continue-run .ensures tt in
-    record { carrier = h .carrier; answers = h .answers; order = h .order; quiet = c .is-quiet-quiet .ensures .answer; crashed-logs-begin-running-ones = ? }
+    let q = c .is-quiet-quiet .ensures in
+    record {
+      carrier = h .carrier;
+      answers = h .answers;
+      order = h .order;
+      quiet = q .answer;
+      crashed-logs-begin-running-ones = λ rest full. h .order .crashed-logs-where-agreed (q .agreed (q .answer .1 (h .order .broadcast-quiet-at-rest rest full)) (h .made)) rest full;
+    }
