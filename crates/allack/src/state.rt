@@ -1,5 +1,5 @@
 use crate::counts::Counts;
-use shared::card_sets::CardSets;
+use tables::card_sets::CardSets;
 use spread::state::Spread;
 
 pub mod broadcast;

@@ -6,7 +6,7 @@ use notes::set::NoteSet;
 use parts::broadcast::Broadcast;
 use parts::refusal::Refusal;
 use parts::uniform::Uniform;
-use shared::card_sets::CardSets;
+use tables::card_sets::CardSets;
 use spread::state::Spread;
 use std::alloc::AllocError;
 use std::alloc::Global;

@@ -7,10 +7,10 @@ use notes::set::NoteSet;
 use parts::broadcast::Broadcast;
 use parts::refusal::Refusal;
 use parts::uniform::Uniform;
-use shared::card_sets::CardSets;
-use shared::cards::Cards;
-use shared::posters::Posters;
-use shared::wire::Wire;
+use tables::card_sets::CardSets;
+use cards::Cards;
+use tables::posters::Posters;
+use wire::Wire;
 use std::alloc::AllocError;
 use std::alloc::Global;
 

@@ -7,9 +7,9 @@ use crate::held::Held;
 use notes::set::NoteSet;
 use parts::consensus::Consensus;
 use parts::refusal::Refusal;
-use shared::ballots::Ballots;
-use shared::cards::Cards;
-use shared::wire::Wire;
+use tables::ballots::Ballots;
+use cards::Cards;
+use wire::Wire;
 use std::alloc::AllocError;
 use std::alloc::Global;
 
