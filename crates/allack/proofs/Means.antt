@@ -1,8 +1,8 @@
 -- Each call of all-ack, from what it makes of the state to what the interface says of it.
-use mathlib.Core.Path.{_≡_, refl, sym, ap, subst, _∙_}
-use mathlib.Core.Bool.{Bool, true, false, _||_, _&&_}
+use mathlib.Core.Path.{_≡_, refl, sym, ap, _∙_}
+use mathlib.Core.Bool.{true, false}
 use mathlib.Core.Logic.{⊎-elim}
-use Prim.Native.Nat.{ℕ, _≤_, _<_}
+use Prim.Native.Nat.{ℕ, _<_}
 use native.Mathlib.Omega.{arith}
 use borrow.Author.Tests.{clash}
 use lib.ListN.{length}
@@ -16,7 +16,7 @@ use Rattle.parts.specs.Refusals.{postAnswer, carryAnswer, loseAnswer, crashAnsw
 use Rattle.parts.specs.Broadcasting.{Started, HandedMore, Posted, Carried, Lost, Crashed, Suspected, Lawful, UniformAgreement}
 use Rattle.parts.proofs.Accepted.{post-accepted, crash-accepted, suspect-accepted}
 use Rattle.shared.specs.Cards.{crashedIn}
-use Rattle.shared.specs.Tables.{setIn, withNotes}
+use Rattle.shared.specs.Tables.{setIn}
 use Rattle.shared.specs.Wires.{anyOf}
 use Rattle.shared.specs.declared.wire.Item.{Item}
 use Rattle.shared.proofs.Changes.{posted-below, noted-all, noted-all-others-stay, nothing-left, bool-same}

@@ -1,33 +1,30 @@
 -- `new` and the calls make spreads that hold together.
 use mathlib.Core.Path.{_≡_, refl, sym, ap, subst, _∙_}
-use mathlib.Core.Bool.{Bool, true, false, cond, not, _||_, _&&_}
-use mathlib.Core.List.{List, [], _∷_, _++_}
-use mathlib.Core.Logic.{_⊎_, inl, inr, ⊎-elim}
-use Prim.Native.Nat.{ℕ, _^_, _≤_, _<_}
+use mathlib.Core.Bool.{Bool, true, false, _||_, _&&_}
+use mathlib.Core.Logic.{_⊎_, ⊎-elim}
+use Prim.Native.Nat.{ℕ, _<_}
 use native.Mathlib.Omega.{arith}
 use borrow.Author.Tests.{clash}
-use lib.Dec.{eqb, ltb}
-use lib.ListN.{length, getD, set, length-set}
+use lib.Dec.{eqb}
+use lib.ListN.{length, set, length-set}
 use Rattle.std.specs.Finite.{nth}
 use Rattle.std.specs.Holes.{removed}
 use Rattle.std.specs.Options.{isSome}
-use Rattle.std.specs.shelf.Lists.{All}
-use Rattle.std.specs.declared.option.Option.{Option}
 use Rattle.std.specs.declared.option.Option.the-variants.{Some, None}
 use Rattle.std.proofs.shelf.Elements.{all-append, all-weaker}
-use Rattle.std.proofs.shelf.Tests.{or-cases, or-left, or-right, or-parts, and-parts, and-from, eqb-true, eqb-false, eq-eqb, ne-eqb, lt-ltb, not-true, not-false, not-from-false, cases-bool, cond-both}
+use Rattle.std.proofs.shelf.Tests.{or-cases, or-left, or-right, or-parts, and-parts, and-from, eqb-true, eqb-false, eq-eqb, ne-eqb, not-true, not-from-false, cases-bool}
 use Rattle.std.proofs.shelf.Ways.{tells}
 use Rattle.notes.specs.Sets.{has}
 use Rattle.notes.proofs.Bits.{has-none}
-use Rattle.shared.specs.Cards.{CardState, crashedIn, withCrash}
-use Rattle.shared.specs.Tables.{posterIn, setIn, withNote}
-use Rattle.shared.specs.Wires.{item, goesTo, sent, elsewhere, anyOf}
+use Rattle.shared.specs.Cards.{crashedIn}
+use Rattle.shared.specs.Tables.{posterIn, setIn}
+use Rattle.shared.specs.Wires.{sent, elsewhere, anyOf}
 use Rattle.shared.specs.declared.wire.Item.{Item}
 use Rattle.shared.proofs.Changes.{posted-more, posted-below, poster-each, noted-more, noted-others-stay, noted-fits}
 use Rattle.shared.proofs.Items.{all-removed, all-nth, all-left, all-sent-are, any-append, any-split, any-left, any-sent}
 use Rattle.shared.proofs.Lists.{same-all}
 use Rattle.shared.proofs.Nets.{new-sound, crash-sound, crash-more, suspect-sound}
-use Rattle.spread.specs.Spread.{SpreadState, lacks, newSpread, relayOn, meetOn, postedBy, postOn, withoutItem, carryOn, crashOn, suspectOn}
+use Rattle.spread.specs.Spread.{SpreadState, lacks, newSpread, relayOn, meetOn, postedBy, postOn, withoutItem, crashOn, suspectOn}
 use Rattle.spread.specs.Made.{Underway, brings, SoundSpread, MadeSpread}
 use Rattle.spread.proofs.Rooms.{lacks-parts, lacks-not, meet-cases}
 

@@ -1,21 +1,18 @@
 -- Each call, from what it makes of a spread to what the interface says of its cards, its wire and its work.
-use mathlib.Core.Path.{_≡_, refl, sym, ap, subst, _∙_}
-use mathlib.Core.Bool.{true, false, _||_, _&&_}
-use mathlib.Core.List.{List, []}
-use mathlib.Core.Logic.{_⊎_, inl, inr, ⊎-elim}
+use mathlib.Core.Path.{_≡_, refl, _∙_}
+use mathlib.Core.Bool.{false}
+use mathlib.Core.Logic.{_⊎_, inl}
 use Prim.Native.Nat.{ℕ, _+_, _≤_, _<_}
 use native.Mathlib.Omega.{arith}
 use lib.ListN.{length}
 use Rattle.std.specs.Finite.{nth}
-use Rattle.std.specs.Options.{isSome}
 use Rattle.std.specs.declared.option.Option.the-variants.{Some}
 use Rattle.std.proofs.shelf.Elements.{all-map, all-weaker}
-use Rattle.std.proofs.shelf.Tests.{both-ways, or-left, eq-eqb}
-use Rattle.notes.specs.Sets.{has}
+use Rattle.std.proofs.shelf.Tests.{or-left, eq-eqb}
 use Rattle.parts.specs.Views.{Net}
 use Rattle.parts.specs.Nets.{NewNet, NetCarried, NetLost, NetCrashed, NetSuspected, LawfulNet}
 use Rattle.shared.specs.Cards.{crashedIn, netOf}
-use Rattle.shared.specs.Tables.{posterIn, setIn}
+use Rattle.shared.specs.Tables.{setIn}
 use Rattle.shared.specs.Wires.{senders, elsewhere}
 use Rattle.shared.specs.declared.wire.Item.{Item}
 use Rattle.shared.proofs.Changes.{posted-more, noted-others-stay}

@@ -1,23 +1,18 @@
 -- The work: by how much a post raises it, and that nothing else does.
-use mathlib.Core.Path.{_≡_, refl, sym, ap, _∙_}
-use mathlib.Core.Bool.{Bool, true, false, cond, not, _||_, _&&_}
-use mathlib.Core.List.{List, _++_}
-use mathlib.Core.Logic.{⊎-elim}
-use Prim.Native.Nat.{ℕ, zero, suc, _+_, _-_, _*_, _≤_, _<_}
+use mathlib.Core.Path.{_≡_, refl, ap}
+use mathlib.Core.Bool.{true, false}
+use Prim.Native.Nat.{ℕ, _+_, _-_, _*_, _≤_, _<_}
 use native.Mathlib.Nat.{mul-le-mul, mul-le-mul-left, mul-add, mul-one, mul-zero}
 use native.Mathlib.Omega.{arith}
-use lib.Dec.{eqb}
-use lib.ListN.{length, set}
-use Rattle.std.specs.Holes.{removed}
+use lib.ListN.{length}
 use Rattle.std.specs.Options.{isSome}
-use Rattle.std.specs.declared.option.Option.the-variants.{Some, None}
+use Rattle.std.specs.declared.option.Option.the-variants.{None}
 use Rattle.std.proofs.shelf.Edits.{length-removed}
 use Rattle.std.proofs.shelf.Lists.{length-append}
-use Rattle.std.proofs.shelf.Tests.{cases-bool, cond-both, or-parts, or-left, or-right, and-parts, and-from, and-left, and-right, eq-eqb, not-true, not-from-true, not-from-false}
+use Rattle.std.proofs.shelf.Tests.{and-from, and-left, and-right, eq-eqb, not-from-false}
 use Rattle.std.proofs.shelf.Ways.{tells}
-use Rattle.notes.specs.Sets.{has}
-use Rattle.shared.specs.Cards.{crashedIn, SoundCards}
-use Rattle.shared.specs.Tables.{posterIn, setIn, withNote}
+use Rattle.shared.specs.Cards.{crashedIn}
+use Rattle.shared.specs.Tables.{posterIn}
 use Rattle.shared.specs.Wires.{sent, elsewhere}
 use Rattle.shared.proofs.Changes.{posted-more, noted-more}
 use Rattle.shared.proofs.Items.{length-left}
@@ -25,7 +20,7 @@ use Rattle.shared.proofs.Lists.{same-all}
 use Rattle.shared.proofs.Nets.{crash-more}
 use Rattle.shared.proofs.Wires.{length-sent-others}
 use Rattle.spread.specs.Counts.{pairs}
-use Rattle.spread.specs.Spread.{SpreadState, lacks, owes, spreadWork, newSpread, relayOn, meetOn, postedBy, postOn, withoutItem, crashOn, suspectOn}
+use Rattle.spread.specs.Spread.{SpreadState, lacks, owes, spreadWork, newSpread, relayOn, meetOn, postedBy, withoutItem, crashOn, suspectOn}
 use Rattle.spread.specs.Made.{SoundSpread}
 use Rattle.spread.proofs.Pairs.{pairs-none, pairs-le, pairs-lt, pairs-grow}
 use Rattle.spread.proofs.Rooms.{lacks-parts, meet-cases}
