@@ -23,10 +23,6 @@ layered s posts = record { below = s; posts = posts }
 abbrev pub shownInTurn : List Post → BroadcastView → BroadcastView
 shownInTurn posts v = record { net = v .net; poster = v .poster; handed = λ p. inTurn posts (v .handed p) }
 
--- The notes that count as handed to card p: those handed below, in turn.
-abbrev pub handedInTurn : {S : Type 0} → (S → ℕ → ℕ) → Layered S → ℕ → ℕ
-handedInTurn handed s p = inTurn (s .posts) (handed (s .below) p)
-
 -- The table holds each post of the broadcast below, once, and no other.
 pub record Agrees (poster : ℕ → Option ℕ) (posts : List Post) : Type 0 where
   pub listed : (m p : ℕ) → poster m ≡ Some p → (i : ℕ) × (i < length posts) × (postAt posts i ≡ postOf p m)

@@ -1,11 +1,9 @@
 ghost use mathlib.Core.Path.{_≡_};
-ghost use mathlib.Core.List.{[]};
 ghost use Rattle.std.specs.Orderings.{Decides};
 ghost use Rattle.notes.specs.Sets.{has};
-ghost use Rattle.inturn.specs.Turns.{written};
-ghost use Rattle.inturn.specs.Layers.{Layered, layered, handedInTurn, madeInTurn, HeldInTurn, InOrder};
-ghost use Rattle.inturn.specs.Models.{layerOf};
-ghost use Rattle.inturn.specs.Calls.{behaviour, AsBelow, TwiceAsOnce};
+ghost use Rattle.inturn.specs.Layers.{Layered, madeInTurn, HeldInTurn, InOrder};
+ghost use Rattle.inturn.specs.Models.{layerOf, postedIn, Made, viewBelow, viewInTurn};
+ghost use Rattle.inturn.specs.Calls.{behaviour, inTurnOver, AsBelow, TwiceAsOnce};
 use self::facts::agreement_carries_over;
 use self::facts::all_is_as_below;
 use self::facts::notes_count_in_order;
@@ -44,23 +42,23 @@ pub impl<B: Broadcast> Broadcast for InTurn<B> as InTurnBroadcast {
 
     ghost poster = { λ s. B·Broadcast .poster (s .below) };
 
-    ghost handed = { handedInTurn (B·Broadcast .handed) };
+    ghost handed = { λ s. inTurnOver (behaviour B·Broadcast) .view s .handed };
 
     ghost made = { madeInTurn (B·Broadcast .made) (B·Broadcast .poster) };
 
     ghost bound = { B·Broadcast .bound };
 
-    ghost start = { λ n. layered (B·Broadcast .start n) [] };
+    ghost start = { inTurnOver (behaviour B·Broadcast) .start };
 
-    ghost posting = { λ s p m. layered (B·Broadcast .posting (s .below) p m) (written (s .posts) p m) };
+    ghost posting = { inTurnOver (behaviour B·Broadcast) .posting };
 
-    ghost carrying = { λ s i. layered (B·Broadcast .carrying (s .below) i) (s .posts) };
+    ghost carrying = { inTurnOver (behaviour B·Broadcast) .carrying };
 
-    ghost losing = { λ s i. layered (B·Broadcast .losing (s .below) i) (s .posts) };
+    ghost losing = { inTurnOver (behaviour B·Broadcast) .losing };
 
-    ghost crashing = { λ s p. layered (B·Broadcast .crashing (s .below) p) (s .posts) };
+    ghost crashing = { inTurnOver (behaviour B·Broadcast) .crashing };
 
-    ghost suspecting = { λ s q p. layered (B·Broadcast .suspecting (s .below) q p) (s .posts) };
+    ghost suspecting = { inTurnOver (behaviour B·Broadcast) .suspecting };
 
     fn new(heap: Global, count: usize) -> Result<InTurn<B>, AllocError> {
         let table = Table::new(heap)?;
@@ -135,9 +133,9 @@ pub impl<B: Uniform> Uniform for InTurn<B> as InTurnUniform {
 impl<B: Broadcast> InTurn<B> {
     // Whether a note counts as handed to a card: it and all earlier posts of its poster are handed below. These then count too.
     pub fn counts_as_handed(&self, card: usize, note: usize) -> bool
-        ensures answer { λ r. ⌜ r ≡ has (handedInTurn (B·Broadcast .handed) (layerOf (B·Broadcast .state) (now (self .entry))) card) note ⌝ }
-        ensures rule { λ r. ⌜ (madeInTurn (B·Broadcast .made) (B·Broadcast .poster) (layerOf (B·Broadcast .state) (now (self .entry))) → Decides r (HeldInTurn (layerOf (B·Broadcast .state) (now (self .entry)) .posts) (B·Broadcast .handed (layerOf (B·Broadcast .state) (now (self .entry)) .below) card) note)) ⌝ }
-        ensures order { λ _. ⌜ (madeInTurn (B·Broadcast .made) (B·Broadcast .poster) (layerOf (B·Broadcast .state) (now (self .entry))) → InOrder (layerOf (B·Broadcast .state) (now (self .entry)) .posts) (handedInTurn (B·Broadcast .handed) (layerOf (B·Broadcast .state) (now (self .entry))))) ⌝ }
+        ensures answer { λ r. ⌜ r ≡ has (viewInTurn B·Broadcast (now (self .entry)) .handed card) note ⌝ }
+        ensures rule { λ r. ⌜ (Made B·Broadcast (now (self .entry)) → Decides r (HeldInTurn (postedIn (now (self .entry))) (viewBelow B·Broadcast (now (self .entry)) .handed card) note)) ⌝ }
+        ensures order { λ _. ⌜ (Made B·Broadcast (now (self .entry)) → InOrder (postedIn (now (self .entry))) (viewInTurn B·Broadcast (now (self .entry)) .handed)) ⌝ }
     {
         let counts = self.handed_to(card).contains(note);
         notes_count_in_order(self, card, note, counts);

@@ -8,7 +8,7 @@ use reader::read::read;
 use reader::schedule::Notes;
 use reader::schedule::Schedule;
 use reader::schedule::Unread;
-use schedule::fault::FileFaultDisplay;
+use faults::FileFaultDisplay;
 use std::error::AnyError;
 use std::io::Read;
 

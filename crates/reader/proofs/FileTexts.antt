@@ -1,9 +1,9 @@
 -- The file that is accepted is the written form of its schedule; the first fault stands where what was read ends.
 use mathlib.Core.Path.{_≡_, refl, sym, ap, subst, _∙_}
-use mathlib.Core.Bool.{Bool, true, false, cond}
+use mathlib.Core.Bool.{true, false}
 use mathlib.Core.Logic.{⊎-elim}
 use mathlib.Core.List.{List, [], _∷_, _++_, append-nil, append-assoc}
-use Prim.Native.Nat.{ℕ, suc, zero, _+_, _-_, _≤_, _<_}
+use Prim.Native.Nat.{ℕ, _+_, _≤_, _<_}
 use native.Mathlib.Omega.{arith}
 use lib.Dec.{eqb, ltb}
 use lib.ListN.{length, length-append, take}
@@ -20,26 +20,26 @@ use Rattle.text.specs.Parts.{Span, wholeOf, placeOf, faultAt}
 use Rattle.schedule.specs.declared.contents.NoteKind.{NoteKind}
 use Rattle.schedule.specs.declared.contents.NoteKind.the-variants as kinds
 use Rattle.schedule.specs.declared.contents.Contents.{Contents}
-use Rattle.schedule.specs.declared.event.Event.{Event}
-use Rattle.schedule.specs.declared.fault.FileFault.{FileFault}
-use Rattle.schedule.specs.declared.fault.FileFault.the-variants.{Long, Surplus, Contents as InContents}
-use Rattle.schedule.specs.Chains.{andThen, mapErr}
-use Rattle.schedule.specs.Lines.{linesOf}
-use Rattle.schedule.specs.Notes.{wearOf, labelAt}
-use Rattle.schedule.specs.Events.{eventOf}
+use Rattle.entries.specs.declared.event.Event.{Event}
+use Rattle.faults.specs.declared.FileFault.{FileFault}
+use Rattle.faults.specs.declared.FileFault.the-variants.{Long, Surplus, Contents as InContents}
+use Rattle.entries.specs.Chains.{andThen, mapErr}
+use Rattle.entries.specs.Lines.{linesOf}
+use Rattle.entries.specs.Notes.{wearOf, labelAt}
+use Rattle.entries.specs.Events.{eventOf}
 use Rattle.schedule.specs.Contents.{contentsOf}
-use Rattle.schedule.specs.Written.{anywhere, wearText, WearAllowed, labelPut, labelText, LabelAllowed, eventText, EventAllowed, contentsLines, ContentsAllowed, contentsText, writtenLines, lineItself}
-use Rattle.schedule.specs.Says.{ContentsStop, ContentsSays}
-use Rattle.schedule.proofs.NoteLaws.{wear-reads, label-reads}
-use Rattle.schedule.proofs.EventLaws.{event-reads}
+use Rattle.entries.specs.Written.{anywhere, wearText, WearAllowed, labelPut, labelText, LabelAllowed, eventText, EventAllowed, writtenLines, lineItself}
+use Rattle.schedule.specs.Written.{contentsLines, ContentsAllowed, contentsText}
+use Rattle.entries.proofs.NoteLaws.{wear-reads, label-reads}
+use Rattle.entries.proofs.EventLaws.{event-reads}
 use Rattle.schedule.proofs.ContentsWhole.{contents-say, contents-read-back}
 use Rattle.reader.specs.declared.schedule.Schedule.{Schedule}
 use Rattle.reader.specs.declared.schedule.Unread.{Unread}
 use Rattle.reader.specs.declared.schedule.Unread.the-variants.{Fault, NoMemory}
 use Rattle.reader.specs.Sections.{endOf, Noted, wears, labels, firstBy, notesOf}
 use Rattle.reader.specs.Files.{Whole, wholeIn, notesFault, eventsFault, ended, scheduleOf, contentsIn, Answers}
-use Rattle.reader.specs.Written.{Note, noteText, NoteAllowed, Plan, written, Fine, Allowed, putLines, notedAt, answered}
-use Rattle.reader.specs.Says.{NoLine, LinesStand, LinesStop, Breaks, BreaksInContents, BreaksInNotes, BreaksInEvents, GoesOn, FirstFault, OnlySchedule, FileSays, SectionSays, CheckSays, ReadSays}
+use Rattle.reader.specs.Written.{Note, noteText, NoteAllowed, Plan, written, Fine, Allowed, notedAt, answered}
+use Rattle.reader.specs.Says.{NoLine, LinesStand, LinesStop, Breaks, FirstFault, OnlySchedule, FileSays, SectionSays, CheckSays, ReadSays}
 use Rattle.reader.proofs.SectionTexts.{put-anywhere, lines-only, lines-back, lines-stop, section-says}
 
 -- Notes of either kind

@@ -1,8 +1,8 @@
 -- The lines that are read are those that stand there.
 use mathlib.Core.Path.{_≡_, refl, sym, ap, subst, _∙_}
-use mathlib.Core.Logic.{_⊎_, inl, inr, ⊎-elim}
+use mathlib.Core.Logic.{inl, inr}
 use mathlib.Core.List.{List, [], _∷_, _++_, append-nil, append-assoc}
-use Prim.Native.Nat.{ℕ, suc, zero, _+_, _-_, _≤_, _<_}
+use Prim.Native.Nat.{ℕ, suc, zero, _+_, _≤_}
 use native.Mathlib.Omega.{arith}
 use lib.ListN.{length, length-append}
 use Rattle.std.specs.shelf.Lists.{All}
@@ -11,13 +11,13 @@ use Rattle.std.specs.declared.result.Result.{Result}
 use Rattle.std.specs.declared.result.Result.the-variants.{Ok, Err}
 use Rattle.text.specs.declared.fault.LineFault.{LineFault}
 use Rattle.text.specs.Parts.{Span, placeOf, faultAt}
-use Rattle.schedule.specs.Chains.{andThen}
-use Rattle.schedule.specs.Lines.{lineBy, linesAfter, linesOf}
-use Rattle.schedule.specs.Written.{ReadsWritten, anywhere, writtenLines}
-use Rattle.schedule.proofs.RuleLaws.{then-ok, then-err, one-only, one-back, one-fault, one-due}
+use Rattle.entries.specs.Chains.{andThen}
+use Rattle.entries.specs.Lines.{lineBy, linesAfter, linesOf}
+use Rattle.entries.specs.Written.{ReadsWritten, anywhere, writtenLines}
+use Rattle.entries.proofs.RuleLaws.{then-ok, then-err, one-only, one-back, one-fault, one-due}
 use Rattle.reader.specs.Sections.{endOf}
 use Rattle.reader.specs.Written.{putLines}
-use Rattle.reader.specs.Says.{NoLine, LinesStand, LinesStop, SectionSays}
+use Rattle.reader.specs.Says.{LinesStand, LinesStop, SectionSays}
 
 pub put-anywhere : {B : Type 0} (text : B → List ℕ) (place : ℕ) (bs : List B) → putLines anywhere text place bs ≡ bs
 put-anywhere text place [] = refl

@@ -5,9 +5,9 @@ ghost use Rattle.reader.specs.Says.{CheckSays};
 use crate::section::check_events;
 use crate::section::check_notes;
 use schedule::contents::Contents;
-use schedule::fault::BodyFault;
-use schedule::fault::FileFault;
-use schedule::fault::LONGEST;
+use faults::BodyFault;
+use faults::FileFault;
+use faults::LONGEST;
 use text::part::Part;
 
 fn first_fault(file: &[u8]) -> Result<Contents, FileFault>

@@ -2,8 +2,8 @@
 use labels::Label;
 use notes::wear::Wear;
 use schedule::contents::Contents;
-use schedule::event::Event;
-use schedule::fault::FileFault;
+use entries::event::Event;
+use faults::FileFault;
 
 // The notes, all of the kind that the contents name.
 #[derive(Drop)]

@@ -1,24 +1,24 @@
 // Sections: so many lines of one kind.
 ghost use mathlib.Core.Path.{_≡_};
 ghost use mathlib.Core.List.{[]};
-ghost use Prim.Native.Nat.{ℕ, _+_, _≤_};
+ghost use Prim.Native.Nat.{_+_, _≤_};
 ghost use Rattle.std.specs.Of.Vec.{vec-items, vec-len, vec-cap};
 ghost use Rattle.text.specs.Parts.{partOf};
-ghost use Rattle.schedule.specs.Lines.{linesOf};
-ghost use Rattle.schedule.specs.Events.{eventOf};
-ghost use Rattle.schedule.specs.Written.{eventText, EventAllowed};
+ghost use Rattle.entries.specs.Lines.{linesOf};
+ghost use Rattle.entries.specs.Events.{eventOf};
+ghost use Rattle.entries.specs.Written.{eventText, EventAllowed};
 ghost use Rattle.reader.specs.Sections.{endSeen, endOf, itemsSeen, notesOf};
 ghost use Rattle.reader.specs.Written.{noteText, NoteAllowed};
 ghost use Rattle.reader.specs.Says.{SectionSays};
 use labels::Label;
 use notes::wear::Wear;
 use schedule::contents::NoteKind;
-use schedule::event::Event;
-use schedule::reader::event::EventLine;
-use schedule::reader::line::OneLine;
-use schedule::reader::line::first_line;
-use schedule::reader::note::LabelLine;
-use schedule::reader::note::WearLine;
+use entries::event::Event;
+use entries::event_line::EventLine;
+use entries::line::OneLine;
+use entries::line::first_line;
+use entries::note_line::LabelLine;
+use entries::note_line::WearLine;
 use text::fault::LineFault;
 use text::part::Part;
 

@@ -1,28 +1,29 @@
 -- The contents that are read are those that stand there, and none stand where they are refused.
 use mathlib.Core.Path.{_≡_, refl, sym, ap, subst, _∙_}
-use mathlib.Core.Bool.{Bool, true, false}
+use mathlib.Core.Bool.{false}
 use mathlib.Core.List.{List, [], _∷_, _++_, append-assoc}
-use Prim.Native.Nat.{ℕ, _<_, _≤_}
+use Prim.Native.Nat.{ℕ, _<_}
 use native.Mathlib.Omega.{arith}
 use lib.Chars.{codes}
-use lib.ListN.{length, take, getD}
+use lib.ListN.{take, getD}
 use Rattle.std.specs.declared.option.Option.{Option}
 use Rattle.std.specs.declared.result.Result.{Result}
 use Rattle.std.specs.declared.result.Result.the-variants.{Ok, Err}
 use Rattle.text.specs.declared.fault.LineFault.{LineFault}
-use Rattle.text.specs.Parts.{Span, placeOf, faultAt}
+use Rattle.text.specs.Parts.{Span, faultAt}
 use Rattle.schedule.specs.declared.contents.NoteKind.{NoteKind}
 use Rattle.schedule.specs.declared.contents.NoteKind.the-variants.{Wear}
 use Rattle.schedule.specs.declared.contents.BroadcastPart.the-variants.{Relay}
 use Rattle.schedule.specs.declared.contents.ConsensusPart.the-variants.{Flood}
 use Rattle.schedule.specs.declared.contents.Pile.{Pile}
 use Rattle.schedule.specs.declared.contents.Contents.{Contents}
-use Rattle.schedule.specs.Chains.{andThen}
-use Rattle.schedule.specs.Lines.{lineBy}
+use Rattle.entries.specs.Chains.{andThen}
+use Rattle.entries.specs.Lines.{lineBy}
 use Rattle.schedule.specs.Contents.{kindOf, countOf, pileOf, contentsOf}
-use Rattle.schedule.specs.Written.{ReadsWritten, anywhere, Always, Between, kindText, countText, pileText, contentsLines, ContentsAllowed, writtenLines, lineItself, contentsText}
+use Rattle.entries.specs.Written.{ReadsWritten, anywhere, writtenLines, lineItself}
+use Rattle.schedule.specs.Written.{Always, Between, kindText, countText, pileText, contentsLines, ContentsAllowed, contentsText}
 use Rattle.schedule.specs.Says.{ContentsStop, ContentsSays}
-use Rattle.schedule.proofs.RuleLaws.{one-only, one-back, one-fault, one-due}
+use Rattle.entries.proofs.RuleLaws.{one-only, one-back, one-fault, one-due}
 use Rattle.schedule.proofs.ContentsLaws.{kind-reads, cards-read, pile-reads, notes-read, events-read}
 
 -- The readings, one after the other

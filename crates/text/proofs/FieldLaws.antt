@@ -1,17 +1,16 @@
 -- Fields that are cut apart are those that are written with a space between each two.
 use mathlib.Core.Path.{_≡_, refl, sym, ap, subst, _∙_}
 use mathlib.Core.List.{List, [], _∷_, _++_, map, append-nil}
-use Prim.Native.Nat.{ℕ, suc, zero, _+_, _-_, _≤_, _<_}
+use Prim.Native.Nat.{ℕ, suc, zero, _+_, _-_, _<_}
 use native.Mathlib.Omega.{arith}
 use lib.ListN.{length}
 use Rattle.std.specs.Options.{mapped}
-use Rattle.std.specs.Written.{decimal}
 use Rattle.std.specs.shelf.Lists.{All}
 use Rattle.std.specs.declared.option.Option.{Option}
 use Rattle.std.specs.declared.option.Option.the-variants.{Some, None}
 use Rattle.text.specs.Numbers.{numeral}
 use Rattle.text.specs.Parts.{Span, before, after}
-use Rattle.text.specs.Fields.{Cut, number, numberOr, readField, fieldsAfter, cutFields}
+use Rattle.text.specs.Fields.{Cut, numberOr, readField, fieldsAfter, cutFields}
 use Rattle.text.specs.Written.{Free, spaced, spacedAfter, fieldBytes}
 use Rattle.text.proofs.DecimalLaws.{numeral-only}
 use Rattle.text.proofs.LineLaws.{cut-only, uncut-only, cut-back, uncut-back}

@@ -1,4 +1,4 @@
-use mathlib.Core.Path.{_≡_, ap, _∙_}
+use mathlib.Core.Path.{ap, _∙_}
 use Rattle.text.specs.Parts.{partOf}
 use Rattle.reader.specs.Sections.{wears, firstBy, notesOf}
 use Rattle.reader.proofs.FileLaws.{itself}

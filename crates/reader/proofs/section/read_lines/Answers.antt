@@ -1,11 +1,10 @@
-use mathlib.Core.Path.{_≡_, refl, sym, ap, _∙_}
-use mathlib.Core.List.{map, []}
-use Prim.Native.Nat.{_+_, _-_, _≤_}
+use mathlib.Core.Path.{_≡_, sym, ap, _∙_}
+use mathlib.Core.List.{map}
+use Prim.Native.Nat.{_-_}
 use native.Mathlib.Omega.{arith}
 use Rattle.std.proofs.shelf.Lists.{map-push}
-use Rattle.std.specs.Of.Vec.{vec-len}
 use Rattle.text.specs.Parts.{partOf}
-use Rattle.schedule.specs.Lines.{linesAfter}
+use Rattle.entries.specs.Lines.{linesAfter}
 use Rattle.reader.proofs.SectionLaws.{line-more, line-wrong, no-more}
 use Rattle.reader.proofs.section.read_lines.Needs as need
 
