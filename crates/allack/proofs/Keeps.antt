@@ -1,17 +1,15 @@
 -- `new` and the calls make all-acks that hold together.
 use mathlib.Core.Path.{_≡_, refl, sym, ap, subst, _∙_}
 use mathlib.Core.Bool.{Bool, true, false, _||_, _&&_}
-use mathlib.Core.List.{List, []}
+use mathlib.Core.List.{List}
 use mathlib.Core.Logic.{⊎-elim}
-use Prim.Native.Nat.{ℕ, _≤_, _<_}
+use Prim.Native.Nat.{ℕ, _<_}
 use native.Mathlib.Omega.{arith}
 use borrow.Author.Tests.{clash}
 use lib.Dec.{eqb}
-use lib.ListN.{length, getD, replicate, length-set}
+use lib.ListN.{replicate, length-set}
 use Rattle.std.specs.Finite.{nth}
-use Rattle.std.specs.Options.{isSome}
-use Rattle.std.specs.declared.option.Option.{Option}
-use Rattle.std.specs.declared.option.Option.the-variants.{Some, None}
+use Rattle.std.specs.declared.option.Option.the-variants.{Some}
 use Rattle.std.proofs.shelf.Tests.{both-ways, cases-bool, cases-eq, or-cases, or-left, or-right, or-parts, and-parts, and-from, and-left, eq-eqb, ne-eqb, eqb-true}
 use Rattle.notes.specs.Sets.{has, added}
 use Rattle.notes.proofs.Bits.{has-none}

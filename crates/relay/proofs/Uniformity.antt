@@ -1,14 +1,12 @@
 -- A poster may be left alone with its note.
-use mathlib.Core.Path.{_≡_, refl, sym}
-use mathlib.Core.Bool.{true, false}
-use Prim.Native.Nat.{ℕ, zero, suc, _<_}
+use mathlib.Core.Path.{refl, sym}
+use Prim.Native.Nat.{zero, suc}
 use native.Mathlib.Omega.{arith}
 use borrow.Author.Tests.{clash}
 use Rattle.std.proofs.shelf.Tests.{both-ways}
 use Rattle.notes.specs.Sets.{has}
-use Rattle.parts.specs.Views.{Runs, Quiet, FullSuspicion}
-use Rattle.spread.specs.Spread.{SpreadState, newSpread, postOn, withoutItem, crashOn}
-use Rattle.spread.specs.Made.{MadeSpread}
+use Rattle.parts.specs.Views.{FullSuspicion}
+use Rattle.spread.specs.Spread.{newSpread, postOn, withoutItem, crashOn}
 use Rattle.spread.proofs.Keeps.{new-made}
 use Rattle.relay.specs.Relay.{seen}
 use Rattle.relay.specs.Uniformity.{AlwaysAgrees, LeftAlone, smallestRun}

@@ -1,7 +1,6 @@
 -- Relay is not uniform, and the smallest run that shows it.
 use mathlib.Core.Path.{_≡_}
 use mathlib.Core.Bool.{true, false}
-use Prim.Native.Nat.{ℕ}
 use Rattle.notes.specs.Sets.{has}
 use Rattle.parts.specs.Views.{Runs, Quiet}
 use Rattle.parts.specs.Broadcasting.{UniformAgreement}

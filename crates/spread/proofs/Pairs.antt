@@ -1,13 +1,13 @@
 -- Counts of cards and notes, as a test passes less or more often.
-use mathlib.Core.Path.{_≡_, refl, sym, ap, _∙_}
-use mathlib.Core.Bool.{Bool, true, false, cond, not, _||_}
+use mathlib.Core.Path.{_≡_, refl, ap, _∙_}
+use mathlib.Core.Bool.{Bool, true, false, not, _||_}
 use mathlib.Core.List.{List}
 use mathlib.Core.Logic.{⊎-elim}
 use Prim.Native.Nat.{ℕ, zero, suc, _+_, _≤_, _<_}
 use native.Mathlib.Omega.{arith}
 use lib.Dec.{eqb}
 use lib.ListN.{length, replicate}
-use Rattle.std.proofs.shelf.Tests.{cases-bool, cases-lt, or-cases, or-left, or-right, and-from, eq-eqb, eqb-true, eqb-false, not-true, not-from-true, not-from-false}
+use Rattle.std.proofs.shelf.Tests.{cases-bool, cases-lt, or-cases, or-right, and-from, eq-eqb, eqb-true, not-from-true, not-from-false}
 use Rattle.std.proofs.shelf.Ways.{tells}
 use Rattle.notes.specs.Sets.{has, howMany}
 use Rattle.notes.proofs.Counting.{count-le, count-lt}

@@ -1,4 +1,4 @@
-use mathlib.Core.Path.{sym, ap, _∙_}
+use mathlib.Core.Path.{sym, _∙_}
 use Rattle.std.proofs.shelf.Lists.{nil-from-length}
 use Rattle.wire.specs.Wires.{senders}
 use Rattle.cards.proofs.Nets.{quiet-when, suspected-when}
