@@ -1,0 +1,3 @@
+pub mod Agrees
+pub mod Puts
+pub mod Kept
