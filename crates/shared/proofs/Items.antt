@@ -78,6 +78,10 @@ part-left f keep [] = none
 part-left f keep (x ∷ xs) =
     cond-both (keep x) (x ∷ kept-by keep xs) (kept-by keep xs) (λ l. PartOf (map f l) (f x ∷ map f xs)) (λ _. stays (f x) (part-left f keep xs)) (λ _. leaves (f x) (part-left f keep xs))
 
+pub part-all : (xs : List ℕ) → PartOf xs xs
+part-all [] = none
+part-all (x ∷ xs) = stays x (part-all xs)
+
 pub length-left : {X : Type 0} (keep : X → Bool) (xs : List X) → length (kept-by keep xs) ≤ length xs
 length-left keep [] = omega arith
 length-left keep (x ∷ xs) = let h = length-left keep xs in cond-both (keep x) (x ∷ kept-by keep xs) (kept-by keep xs) (λ l. length l ≤ suc (length xs)) (λ _. omega arith) (λ _. omega arith)

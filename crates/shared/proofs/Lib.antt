@@ -3,3 +3,4 @@ pub mod Wires
 pub mod Items
 pub mod Nets
 pub mod Free
+pub mod Taken

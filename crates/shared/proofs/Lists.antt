@@ -1,15 +1,15 @@
 -- Tables as lists: what is read after a write, and in a new table.
-use mathlib.Core.Path.{_≡_, refl, sym, ap, _∙_}
-use mathlib.Core.Bool.{cond}
+use mathlib.Core.Path.{_≡_, refl, sym, ap, subst, _∙_}
+use mathlib.Core.Bool.{Bool, true, false, cond, _&&_}
 use mathlib.Core.List.{List, [], _∷_, map}
 use mathlib.Core.Logic.{_⊎_, inl, inr, ⊎-elim}
 use Prim.Native.Nat.{ℕ, zero, suc, _≤_, _<_}
 use native.Mathlib.Omega.{arith}
 use lib.Dec.{eqb}
-use lib.ListN.{length, getD, set, replicate}
+use lib.ListN.{length, getD, set, replicate, length-set}
 use lib.Seq.{getD-set-same, getD-set-other}
 use Rattle.std.proofs.shelf.Lists.{map-set, set-past, set-getD, getD-past}
-use Rattle.std.proofs.shelf.Tests.{cases-eq, eq-eqb, ne-eqb, cond-true, cond-false}
+use Rattle.std.proofs.shelf.Tests.{cases-eq, eqb-true, eq-eqb, ne-eqb, cond-true, cond-false, cond-both}
 
 -- A write changes its own place only.
 pub written : {X : Type 0} (xs : List X) (i j : ℕ) (a d : X) → i < length xs → getD (set xs i a) j d ≡ cond (eqb j i) a (getD xs j d)
@@ -63,3 +63,19 @@ read-past rows n k p d =
     ⊎-elim
     (λ h. getD-past (getD rows k []) p d (h .1))
     (λ h. ap (λ r. getD r p d) (getD-past rows k [] h))
+
+-- A write into a row changes its own place only, and no length.
+pub row-written : {X : Type 0} (rows : List (List X)) (q p a b : ℕ) (v d : X) → q < length rows → p < length (getD rows q [])
+    → getD (getD (set rows q (set (getD rows q []) p v)) a []) b d ≡ cond (eqb a q && eqb b p) v (getD (getD rows a []) b d)
+row-written rows q p a b v d hq hp =
+    ap (λ r. getD r b d) (written rows q a (set (getD rows q []) p v) [] hq)
+    ∙ ⊎-elim
+    (λ e. rw (eq-eqb a q e) (written (getD rows q []) p b v d hp ∙ ap (λ z. cond (eqb b p) v (getD (getD rows z []) b d)) (sym e)))
+    (λ n. rw (ne-eqb a q n) refl)
+    (cases-eq a q)
+
+pub rows-kept : {X : Type 0} (rows : List (List X)) (m n q p : ℕ) (v : X) → q < length rows → ((a : ℕ) → a < m → length (getD rows a []) ≡ n)
+    → (a : ℕ) → a < m → length (getD (set rows q (set (getD rows q []) p v)) a []) ≡ n
+rows-kept rows m n q p v h r a l =
+    rw (written rows q a (set (getD rows q []) p v) [] h)
+    (cond-both (eqb a q) (set (getD rows q []) p v) (getD rows a []) (λ z. length z ≡ n) (λ e. simp length-set (subst (λ z. length (getD rows z []) ≡ n) (eqb-true a q e) (r a l))) (λ _. r a l))

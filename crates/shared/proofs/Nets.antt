@@ -9,14 +9,14 @@ use borrow.Author.Tests.{clash}
 use lib.Dec.{eqb, ltb}
 use lib.ListN.{length, getD, set, replicate, length-set}
 use Rattle.std.specs.shelf.Lists.{All}
-use Rattle.std.proofs.shelf.Tests.{cases-eq, or-cases, or-left, or-right, and-parts, eqb-true, eq-eqb, ne-eqb, cond-both}
+use Rattle.std.proofs.shelf.Tests.{or-cases, or-right, and-parts, eqb-true}
 use Rattle.std.proofs.shelf.Ways.{tells}
 use Rattle.parts.specs.Views.{Net, Runs, Quiet}
 use Rattle.parts.specs.Refusals.{crashAnswer, suspectAnswer}
 use Rattle.parts.specs.Nets.{PartOf, NewNet, SameCards, NetCrashed, NetSuspected, LawfulNet}
 use Rattle.parts.proofs.Accepted.{crash-accepted, suspect-accepted}
 use Rattle.shared.specs.Cards.{CardState, crashedIn, suspectsIn, newCards, withCrash, withSuspicion, netOf, AllSuspected, SoundCards}
-use Rattle.shared.proofs.Lists.{written, same-all, same-rows, new-row}
+use Rattle.shared.proofs.Lists.{written, row-written, rows-kept, same-all, same-rows, new-row}
 
 -- New cards.
 
@@ -71,22 +71,9 @@ net-crashed c p w w′ k k′ g h part less =
 
 -- A suspicion.
 
-in-row : (rows : List (List Bool)) (q p a b : ℕ) → p < length (getD rows q []) → getD (cond (eqb a q) (set (getD rows q []) p true) (getD rows a [])) b false ≡ ((eqb a q && eqb b p) || getD (getD rows a []) b false)
-in-row rows q p a b h =
-    ⊎-elim
-    (λ e. rw (eq-eqb a q e) (marked (getD rows q []) p b h ∙ ap (λ z. eqb b p || getD (getD rows z []) b false) (sym e)))
-    (λ n. rw (ne-eqb a q n) refl)
-    (cases-eq a q)
-
 pub suspect-more : (c : CardState) (q p a b : ℕ) → SoundCards c → q < c .count → p < c .count → suspectsIn (withSuspicion c q p) a b ≡ ((eqb a q && eqb b p) || suspectsIn c a b)
 suspect-more c q p a b g hq hp =
-    ap (λ r. getD r b false) (written (c .suspicions) q a (set (getD (c .suspicions) q []) p true) [] (omega (arith, g .rows, g .few)))
-    ∙ in-row (c .suspicions) q p a b (omega (arith, g .row q (omega (arith, g .few)), g .few))
-
-rows-kept : (rows : List (List Bool)) (q p : ℕ) → q < length rows → ((a : ℕ) → a < 6 → length (getD rows a []) ≡ 6) → (a : ℕ) → a < 6 → length (getD (set rows q (set (getD rows q []) p true)) a []) ≡ 6
-rows-kept rows q p h r a l =
-    rw (written rows q a (set (getD rows q []) p true) [] h)
-    (cond-both (eqb a q) (set (getD rows q []) p true) (getD rows a []) (λ z. length z ≡ 6) (λ e. simp length-set (subst (λ z. length (getD rows z []) ≡ 6) (eqb-true a q e) (r a l))) (λ _. r a l))
+    row-written (c .suspicions) q p a b true false (omega (arith, g .rows, g .few)) (omega (arith, g .row q (omega (arith, g .few)), g .few)) ∙ true-or (eqb a q && eqb b p) (suspectsIn c a b)
 
 pub suspect-sound : (c : CardState) (q p : ℕ) → SoundCards c → q < c .count → p < c .count → crashedIn c p ≡ true → SoundCards (withSuspicion c q p)
 suspect-sound c q p g hq hp d =
@@ -94,7 +81,7 @@ suspect-sound c q p g hq hp d =
       few = g .few;
       crashes = g .crashes;
       rows = simp length-set (g .rows);
-      row = rows-kept (c .suspicions) q p (omega (arith, g .rows, g .few)) (g .row);
+      row = rows-kept (c .suspicions) 6 6 q p true (omega (arith, g .rows, g .few)) (g .row);
       crashed-cards = g .crashed-cards;
       suspecting-cards = λ a b e. ⊎-elim (λ s. subst (λ j. j < c .count) (sym (eqb-true a q (and-parts _ _ s .0))) hq) (λ s. g .suspecting-cards a b s) (or-cases _ _ (sym (suspect-more c q p a b g hq hp) ∙ e));
       suspected-crashed = λ a b e. ⊎-elim (λ s. subst (λ j. crashedIn c j ≡ true) (sym (eqb-true b p (and-parts _ _ s .1))) d) (λ s. g .suspected-crashed a b s) (or-cases _ _ (sym (suspect-more c q p a b g hq hp) ∙ e));

@@ -41,6 +41,12 @@ nth-map f (x ∷ xs) (suc i) = nth-map f xs i
 pub removed-past : {X : Type 0} (xs : List X) (i : ℕ) → length xs ≤ i → removed xs i ≡ xs
 removed-past xs i h = rw (take-all, drop-all (suc i) xs (omega arith)) (append-nil xs)
 
+pub removed-shorter : {X : Type 0} (xs : List X) (i : ℕ) → length (removed xs i) ≤ length xs
+removed-shorter [] zero = omega arith
+removed-shorter [] (suc i) = omega arith
+removed-shorter (x ∷ xs) zero = omega arith
+removed-shorter (x ∷ xs) (suc i) = let h : length (removed xs i) ≤ length xs = removed-shorter xs i in omega arith
+
 pub length-senders : {P : Type 0} (xs : List (Item P)) → length (senders xs) ≡ length xs
 length-senders xs = length-map xs (λ x. x .from)
 

@@ -83,6 +83,7 @@ impl<P: Copy> Wire<P> {
         ensures there { λ r. ⌜ isSome r ≡ ltb item (length (senders (itemsOf (now (self .entry))))) ⌝ }
         ensures items { λ _. ⌜ itemsOf (now (self .exit)) ≡ removed (itemsOf (now (self .entry))) item ⌝ }
         ensures untouched { λ r. ⌜ (isSome r ≡ false → itemsOf (now (self .exit)) ≡ itemsOf (now (self .entry))) ⌝ }
+        ensures fewer { λ _. ⌜ length (itemsOf (now (self .exit))) ≤ length (itemsOf (now (self .entry))) ⌝ }
         ensures room { λ _. ⌜ roomOf (now (self .exit)) ≡ roomOf (now (self .entry)) ⌝ }
     {
         self.pull(item)
@@ -92,6 +93,7 @@ impl<P: Copy> Wire<P> {
     pub fn lose(&mut self, cards: &Cards, item: usize) -> Result<(), Refusal>
         ensures answer { λ r. ⌜ answered r ≡ loseAnswer (netOf (cardsOf (now (cards .entry))) (senders (itemsOf (now (self .entry)))) 0) item ⌝ }
         ensures after { λ r. ⌜ itemsOf (now (self .exit)) ≡ cond (eqb (answered r) 0) (removed (itemsOf (now (self .entry))) item) (itemsOf (now (self .entry))) ⌝ }
+        ensures fewer { λ _. ⌜ length (itemsOf (now (self .exit))) ≤ length (itemsOf (now (self .entry))) ⌝ }
         ensures room { λ _. ⌜ roomOf (now (self .exit)) ≡ roomOf (now (self .entry)) ⌝ }
     {
         let Some(sender) = self.sender_of(item) else {
@@ -107,6 +109,7 @@ impl<P: Copy> Wire<P> {
     // Lets go what is addressed to a card: each item goes once round the ring, so the rest keeps its order.
     pub fn let_go(&mut self, card: usize)
         ensures items { λ _. ⌜ itemsOf (now (self .exit)) ≡ withoutTo card (itemsOf (now (self .entry))) ⌝ }
+        ensures fewer { λ _. ⌜ length (itemsOf (now (self .exit))) ≤ length (itemsOf (now (self .entry))) ⌝ }
         ensures room { λ _. ⌜ roomOf (now (self .exit)) ≡ roomOf (now (self .entry)) ⌝ }
     {
         let count = self.len();
@@ -147,6 +150,7 @@ impl<P: Copy> Wire<P> {
         ensures there { λ r. ⌜ isSome r ≡ ltb item (length (senders (itemsOf (now (self .entry))))) ⌝ }
         ensures items { λ _. ⌜ itemsOf (now (self .exit)) ≡ removed (itemsOf (now (self .entry))) item ⌝ }
         ensures untouched { λ r. ⌜ (isSome r ≡ false → itemsOf (now (self .exit)) ≡ itemsOf (now (self .entry))) ⌝ }
+        ensures fewer { λ _. ⌜ length (itemsOf (now (self .exit))) ≤ length (itemsOf (now (self .entry))) ⌝ }
         ensures room { λ _. ⌜ roomOf (now (self .exit)) ≡ roomOf (now (self .entry)) ⌝ }
     {
         self.items.remove(item)
@@ -167,6 +171,7 @@ impl<P: Copy> Wire<P> {
     fn turn(&mut self, card: usize, times: usize)
         ensures items { λ _. ⌜ itemsOf (now (self .exit)) ≡ turnedTimes card times (itemsOf (now (self .entry))) ⌝ }
         ensures round { λ _. ⌜ (times ≡ length (itemsOf (now (self .entry))) → itemsOf (now (self .exit)) ≡ withoutTo card (itemsOf (now (self .entry)))) ⌝ }
+        ensures fewer { λ _. ⌜ (times ≡ length (itemsOf (now (self .entry))) → length (itemsOf (now (self .exit))) ≤ length (itemsOf (now (self .entry)))) ⌝ }
         ensures room { λ _. ⌜ roomOf (now (self .exit)) ≡ roomOf (now (self .entry)) ⌝ }
     {
         for _turn in 0..times {

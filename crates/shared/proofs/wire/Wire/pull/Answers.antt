@@ -2,7 +2,7 @@ use mathlib.Core.Path.{sym, ap, _∙_}
 use native.Mathlib.Omega.{arith}
 use Rattle.std.specs.Of.VecDeque.{deque-items}
 use Rattle.std.proofs.shelf.Tests.{ltb-false}
-use Rattle.shared.proofs.Wires.{sender-at, pulled, removed-past, length-senders}
+use Rattle.shared.proofs.Wires.{sender-at, pulled, removed-past, removed-shorter, length-senders}
 use Rattle.shared.proofs.wire.Wire.pull.Needs as need
 
 pub returns : need.returns
@@ -15,5 +15,6 @@ returns g c =
       there = there;
       items = p .1;
       untouched = λ h. p .1 ∙ removed-past (d .items) (c .args .item) (omega (arith, length-senders (d .items), ltb-false _ _ (sym there ∙ h)));
+      fewer = rw (p .1) (removed-shorter (d .items) (c .args .item));
       room = c .remove .ensures .capacity;
     }

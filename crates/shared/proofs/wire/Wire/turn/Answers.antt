@@ -1,6 +1,8 @@
 use mathlib.Core.Path.{_≡_, ap, _∙_}
 use native.Mathlib.Omega.{arith}
-use Rattle.shared.specs.Wires.{itemsOf, turnedTimes}
+use lib.ListN.{length}
+use Rattle.shared.specs.Wires.{itemsOf, turnedTimes, withoutTo, elsewhere}
+use Rattle.shared.proofs.Items.{length-left}
 use Rattle.shared.proofs.Wires.{turned-next, turned-round}
 use Rattle.shared.proofs.wire.Wire.turn.Needs as need
 
@@ -9,9 +11,11 @@ returns g c =
     let xs = itemsOf (c .args .self .now) in
     let e : c .loop-turn .-turn ≡ c .args .times = omega arith in
     let all = c .loop-turn .inv .0 ∙ ap (λ k. turnedTimes (c .args .card) k xs) e in
+    let round : c .args .times ≡ length xs → itemsOf (c .loop-turn .self) ≡ withoutTo (c .args .card) xs = λ h. all ∙ ap (λ k. turnedTimes (c .args .card) k xs) h ∙ turned-round (c .args .card) xs in
     record {
       items = all;
-      round = λ h. all ∙ ap (λ k. turnedTimes (c .args .card) k xs) h ∙ turned-round (c .args .card) xs;
+      round = round;
+      fewer = λ h. rw (round h) (length-left (elsewhere (c .args .card)) xs);
       room = c .loop-turn .inv .1;
     }
 
