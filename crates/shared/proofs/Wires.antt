@@ -15,7 +15,7 @@ use Rattle.std.specs.declared.option.Option.{Option}
 use Rattle.std.specs.declared.option.Option.the-variants.{Some, None}
 use Rattle.std.proofs.shelf.Lists.{length-append, length-map, take-all, drop-all}
 use Rattle.std.proofs.shelf.Maps.{nth-read, nth-past}
-use Rattle.std.proofs.shelf.Tests.{cases-bool, cond-true, cond-false, lt-ltb, le-ltb}
+use Rattle.std.proofs.shelf.Tests.{cases-bool, cases-lt, cond-true, cond-false, cond-both, and-right, not-from-true, eq-eqb, lt-ltb, le-ltb}
 use Rattle.std.proofs.shelf.Ways.{tells}
 use Rattle.shared.specs.Cards.{CardState, crashedIn}
 use Rattle.shared.specs.Wires.{item, senders, joined, goesTo, sending, sent, elsewhere, withoutTo, turned, turnedTimes}
@@ -75,20 +75,38 @@ length-sent c from load (suc k) =
     (λ t. rw (cond-false (goesTo c from k) one [] t) (omega (arith, length-append (sent c from load k) [])))
     (cases-bool (goesTo c from k))
 
-pub all-sent : {P : Type 0} (room : ℕ) (c : CardState) (from : ℕ) (load : P) (k : ℕ) (xs : List (Item P)) → length xs + k ≤ room → sending room c from load k xs ≡ xs ++ sent c from load k
+pub all-sent : {P : Type 0} (room : ℕ) (c : CardState) (from : ℕ) (load : P) (k : ℕ) (xs : List (Item P)) → length xs + length (sent c from load k) ≤ room → sending room c from load k xs ≡ xs ++ sent c from load k
 all-sent room c from load zero xs h = sym (append-nil xs)
 all-sent room c from load (suc k) xs h =
     let one = item from k load ∷ [] in
+    let more : List (Item _) = cond (goesTo c from k) one [] in
     let ys = sending room c from load k xs in
+    let n = length-append (sent c from load k) more in
     let e = all-sent room c from load k xs (omega arith) in
-    let l = length-sent c from load k in
-    let t : ltb (length ys) room ≡ true = lt-ltb _ _ (omega (arith, ap length e, length-append xs (sent c from load k))) in
+    let l = ap length e ∙ length-append xs (sent c from load k) in
     ⊎-elim
-    (λ g. cond-true (goesTo c from k) _ _ g ∙ cond-true (ltb (length ys) room) _ _ t ∙ ap (λ zs. zs ++ one) e ∙ append-assoc xs (sent c from load k) one
+    (λ g. let t : ltb (length ys) room ≡ true = lt-ltb _ _ (let o = ap length (cond-true (goesTo c from k) one [] g) in omega arith) in
+    cond-true (goesTo c from k) _ _ g ∙ cond-true (ltb (length ys) room) _ _ t ∙ ap (λ zs. zs ++ one) e ∙ append-assoc xs (sent c from load k) one
     ∙ ap (λ zs. xs ++ (sent c from load k ++ zs)) (sym (cond-true (goesTo c from k) one [] g)))
     (λ g. cond-false (goesTo c from k) _ _ g ∙ e ∙ ap (λ zs. xs ++ zs) (sym (append-nil (sent c from load k)))
     ∙ ap (λ zs. xs ++ (sent c from load k ++ zs)) (sym (cond-false (goesTo c from k) one [] g)))
     (cases-bool (goesTo c from k))
+
+-- A sender that is one of the cards sends to one less.
+pub length-sent-others : {P : Type 0} (c : CardState) (from : ℕ) (load : P) (k : ℕ) → from < k → length (sent c from load k) + 1 ≤ k
+length-sent-others c from load zero h = absurd (omega arith)
+length-sent-others c from load (suc k) h =
+    let one = item from k load ∷ [] in
+    let n = length-append (sent c from load k) (cond (goesTo c from k) one []) in
+    ⊎-elim
+    (λ l. let r = length-sent-others c from load k l in
+    let o : length (cond (goesTo c from k) one []) ≤ 1 = cond-both (goesTo c from k) one [] (λ z. length z ≤ 1) (λ _. omega arith) (λ _. omega arith) in
+    omega arith)
+    (λ l. let e : k ≡ from = omega arith in
+    let g : goesTo c from k ≡ false = and-right _ _ (not-from-true _ (eq-eqb k from e)) in
+    let o = ap length (cond-false (goesTo c from k) one [] g) in
+    let r = length-sent c from load k in omega arith)
+    (cases-lt from k)
 
 sending-more : {P : Type 0} (room : ℕ) (c : CardState) (from : ℕ) (load : P) (k : ℕ) (xs : List (Item P))
     → sending room c from load (k + 1) xs ≡ cond (goesTo c from k) (joined room (sending room c from load k xs) (item from k load)) (sending room c from load k xs)

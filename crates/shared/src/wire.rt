@@ -56,6 +56,13 @@ impl<P: Copy> Wire<P> {
         self.look(item)
     }
 
+    // The item at a place, if there is one; it stays on the wire.
+    pub fn get(&self, item: usize) -> Option<Item<P>>
+        ensures { λ r. ⌜ r ≡ nth (itemsOf (now (self .entry))) item ⌝ }
+    {
+        self.peek(item)
+    }
+
     // An item that finds no room does not join.
     pub fn join(&mut self, item: Item<P>)
         ensures items { λ _. ⌜ itemsOf (now (self .exit)) ≡ joined (roomOf (now (self .entry))) (itemsOf (now (self .entry))) item ⌝ }
@@ -69,6 +76,7 @@ impl<P: Copy> Wire<P> {
     // Sends to every running card but the sender, destinations ascending.
     pub fn send(&mut self, cards: &Cards, from: usize, load: P)
         ensures items { λ _. ⌜ itemsOf (now (self .exit)) ≡ sending (roomOf (now (self .entry))) (cardsOf (now (cards .entry))) from load (cardsOf (now (cards .entry)) .count) (itemsOf (now (self .entry))) ⌝ }
+        ensures tight { λ _. ⌜ (length (itemsOf (now (self .entry))) + length (sent (cardsOf (now (cards .entry))) from load (cardsOf (now (cards .entry)) .count)) ≤ roomOf (now (self .entry)) → itemsOf (now (self .exit)) ≡ itemsOf (now (self .entry)) ++ sent (cardsOf (now (cards .entry))) from load (cardsOf (now (cards .entry)) .count)) ⌝ }
         ensures fits { λ _. ⌜ (length (itemsOf (now (self .entry))) + cardsOf (now (cards .entry)) .count ≤ roomOf (now (self .entry)) → itemsOf (now (self .exit)) ≡ itemsOf (now (self .entry)) ++ sent (cardsOf (now (cards .entry))) from load (cardsOf (now (cards .entry)) .count)) ⌝ }
         ensures room { λ _. ⌜ roomOf (now (self .exit)) ≡ roomOf (now (self .entry)) ⌝ }
     {
@@ -132,6 +140,15 @@ impl<P: Copy> Wire<P> {
         ensures room { λ _. ⌜ roomOf (now (self .exit)) ≡ roomOf (now (self .entry)) ⌝ }
     {
         self.offer(cards, from, to, load);
+    }
+
+    fn peek(&self, item: usize) -> Option<Item<P>>
+        ensures { λ r. ⌜ r ≡ nth (itemsOf (now (self .entry))) item ⌝ }
+    {
+        match self.items.get(item) {
+            Some(found) => Some(*found),
+            None => None,
+        }
     }
 
     fn look(&self, item: usize) -> Option<usize>

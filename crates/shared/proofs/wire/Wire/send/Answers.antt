@@ -2,7 +2,7 @@ use mathlib.Core.Path.{_≡_, ap, _∙_}
 use native.Mathlib.Omega.{arith}
 use Rattle.shared.specs.Cards.{cardsOf}
 use Rattle.shared.specs.Wires.{itemsOf, roomOf, sending}
-use Rattle.shared.proofs.Wires.{all-sent}
+use Rattle.shared.proofs.Wires.{all-sent, length-sent}
 use Rattle.shared.proofs.wire.Wire.send.Needs as need
 
 pub returns : need.returns
@@ -13,6 +13,7 @@ returns g c =
     let all = c .loop-to .inv .0 ∙ ap (λ k. sending (roomOf w) cards (c .args .from) (c .args .load) k (itemsOf w)) e in
     record {
       items = all;
-      fits = λ h. all ∙ all-sent (roomOf w) cards (c .args .from) (c .args .load) (c .args .cards .now .count) (itemsOf w) h;
+      tight = λ h. all ∙ all-sent (roomOf w) cards (c .args .from) (c .args .load) (c .args .cards .now .count) (itemsOf w) h;
+      fits = λ h. all ∙ all-sent (roomOf w) cards (c .args .from) (c .args .load) (c .args .cards .now .count) (itemsOf w) (omega (arith, length-sent cards (c .args .from) (c .args .load) (c .args .cards .now .count)));
       room = c .loop-to .inv .1;
     }
