@@ -1,2 +1,3 @@
 pub mod Mails
 pub mod Counted
+pub mod Rooms

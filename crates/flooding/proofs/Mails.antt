@@ -23,7 +23,7 @@ use Rattle.shared.specs.Cards.{CardState, suspectsIn}
 use Rattle.shared.specs.Wires.{item, senders, goesTo, sent, elsewhere, withoutTo}
 use Rattle.shared.specs.declared.wire.Item.{Item}
 use Rattle.flooding.specs.Mail.{LoadState, loadOf, itemState, isFor, takingOne, takingAt, takingIn}
-use Rattle.flooding.specs.Seats.{SeatState}
+use Rattle.flooding.specs.Seats.{SeatState, hearing}
 use Rattle.flooding.specs.declared.mail.Load.{Load}
 
 pub senders-state : (xs : List (Item Load)) → senders (map itemState xs) ≡ senders xs
@@ -71,12 +71,21 @@ taking-next c k q s t xs i l e = ap (λ j. takingIn c k q t (drop j xs)) (add-on
     at (x ∷ xs) zero l e = ap (λ u. takingIn c k q u xs) e
     at (x ∷ xs) (suc i) l e = at xs i (omega arith) e
 
--- Taking in leaves the round.
+-- Hearing and taking in leave the round.
+pub hearing-round : (c : CardState) (q from known : ℕ) (s : SeatState) → hearing c q from known s .round ≡ s .round
+hearing-round c q from known s = either (suspectsIn c q from)
+  where
+    either : (b : Bool) → (cond b s (record { round = s .round; counted = added (s .counted) from; known = bitOr (s .known) known })) .round ≡ s .round
+    either true = refl
+    either false = refl
+
+taking-one-round : (c : CardState) (k q : ℕ) (s : SeatState) (y : Item LoadState) → takingOne c k q s y .round ≡ s .round
+taking-one-round c k q s y = either (isFor k (s .round) q y)
+  where
+    either : (b : Bool) → (cond b (hearing c q (y .from) (y .load .known) s) s) .round ≡ s .round
+    either true = hearing-round c q (y .from) (y .load .known) s
+    either false = refl
+
 pub taking-round : (c : CardState) (k q : ℕ) (s : SeatState) (xs : List (Item LoadState)) → takingIn c k q s xs .round ≡ s .round
 taking-round c k q s [] = refl
-taking-round c k q s (y ∷ ys) = taking-round c k q (takingOne c k q s y) ys ∙ one (isFor k (s .round) q y) (suspectsIn c q (y .from))
-  where
-    one : (a b : Bool) → (cond a (cond b s (record { round = s .round; counted = added (s .counted) (y .from); known = bitOr (s .known) (y .load .known) })) s) .round ≡ s .round
-    one true true = refl
-    one true false = refl
-    one false b = refl
+taking-round c k q s (y ∷ ys) = taking-round c k q (takingOne c k q s y) ys ∙ taking-one-round c k q s y

@@ -1,2 +1,4 @@
 pub mod Seats
 pub mod Mail
+pub mod Room
+pub mod Flooding

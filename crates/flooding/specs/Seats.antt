@@ -3,6 +3,7 @@ use mathlib.Core.Bool.{Bool, true, false, cond, _||_, _&&_}
 use mathlib.Core.List.{List, [], map}
 use Prim.Native.Nat.{ℕ, zero, suc}
 use lib.Bits.{bitOr}
+use lib.Dec.{ltb}
 use lib.ListN.{getD, set, replicate}
 use Rattle.notes.specs.Models.{bits}
 use Rattle.notes.specs.Sets.{has, added}
@@ -50,3 +51,7 @@ accountedFor c q s p = suspectsIn c q p || has (s .counted) p
 abbrev pub allCounted : CardState → ℕ → SeatState → ℕ → Bool
 allCounted c q s zero = true
 allCounted c q s (suc m) = allCounted c q s m && accountedFor c q s m
+
+-- It has proposed, and every card is.
+abbrev pub ready : CardState → ℕ → SeatState → Bool
+ready c q s = ltb 0 (s .round) && allCounted c q s (c .count)

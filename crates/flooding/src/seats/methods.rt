@@ -4,7 +4,7 @@ ghost use Prim.Native.Nat.{ℕ};
 ghost use lib.ListN.{length, getD};
 ghost use Rattle.notes.specs.Models.{bits};
 ghost use Rattle.shared.specs.Cards.{cardsOf};
-ghost use Rattle.flooding.specs.Seats.{seatOf, seatsOf, newSeats, seatIn, withSeat, entering, hearing, accountedFor, allCounted};
+ghost use Rattle.flooding.specs.Seats.{seatOf, seatsOf, newSeats, seatIn, withSeat, entering, hearing, accountedFor, allCounted, ready};
 use super::Seat;
 use super::Seats;
 use notes::set::NoteSet;
@@ -47,6 +47,13 @@ impl Seat {
             }
         }
         true
+    }
+
+    // It can move on that has proposed and is complete.
+    pub(crate) fn is_ready(self, cards: &Cards, card: usize) -> bool
+        ensures { λ r. ⌜ r ≡ ready (cardsOf (now (cards .entry))) card (seatOf self) ⌝ }
+    {
+        self.round > 0 && self.is_complete(cards, card)
     }
 
     fn accounts_for(self, cards: &Cards, card: usize, other: usize) -> bool
