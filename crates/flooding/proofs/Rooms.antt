@@ -36,11 +36,6 @@ left-after [] k q s = omega arith
 left-after (r ∷ rs) zero q s = omega (arith, row-after r q s)
 left-after (r ∷ rs) (suc k) q s = let h : roundsLeft (withSeat rs k q s) + roundsAfter (seatIn rs k q .round) ≤ roundsLeft rs + roundsAfter (s .round) = left-after rs k q s in omega arith
 
--- What one seat has left is a part of it.
-pub left-within : (t : List (List SeatState)) (k q : ℕ) → roundsAfter (seatIn t k q .round) ≤ roundsLeft t
-unfolding roundsAfter
-left-within t k q = omega (arith, left-after t k q noSeat)
-
 pub rounds-first : roundsAfter 1 ≡ 5
 unfolding roundsAfter
 rounds-first = refl

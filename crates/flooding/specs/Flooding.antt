@@ -74,24 +74,39 @@ seen = consensusView floodingCards floodingCrashed floodingSuspects floodingWire
 abbrev pub newFlooding : ℕ → FloodingState
 newFlooding n = record { cards = newCards n; proposals = newBallots; decisions = newBallots; seats = newSeats; wire = []; kept = [] }
 
--- Card q enters round r of instance k: it counts only itself, sends what it knows to every other card, then takes in what was kept for that round.
-unfoldable pub enterOn : FloodingState → ℕ → ℕ → ℕ → ℕ → FloodingState
-enterOn x k q r known =
+abbrev pub seatOn : FloodingState → ℕ → ℕ → SeatState → FloodingState
+seatOn x k q s = record { cards = x .cards; proposals = x .proposals; decisions = x .decisions; seats = withSeat (x .seats) k q s; wire = x .wire; kept = x .kept }
+
+-- Card q takes its seat in round r of instance k: it has counted only itself.
+abbrev pub sitOn : FloodingState → ℕ → ℕ → ℕ → ℕ → FloodingState
+sitOn x k q r known = seatOn x k q (entering q r known)
+
+-- It sends what it knows to every other card.
+abbrev pub tellOn : FloodingState → ℕ → ℕ → FloodingState
+tellOn x k q =
     record {
       cards = x .cards;
       proposals = x .proposals;
       decisions = x .decisions;
-      seats = withSeat (x .seats) k q (takingIn (x .cards) k q (entering q r known) (x .kept));
-      wire = x .wire ++ sent (x .cards) q (record { instance = k; round = r; known = known }) (x .cards .count);
+      seats = x .seats;
+      wire = x .wire ++ sent (x .cards) q (record { instance = k; round = seatIn (x .seats) k q .round; known = seatIn (x .seats) k q .known }) (x .cards .count);
       kept = x .kept;
     }
+
+-- It takes in what was kept for its round.
+abbrev pub takeInOn : FloodingState → ℕ → ℕ → FloodingState
+takeInOn x k q = seatOn x k q (takingIn (x .cards) k q (seatIn (x .seats) k q) (x .kept))
+
+-- A card that enters a round sends first, then takes in.
+abbrev pub enterOn : FloodingState → ℕ → ℕ → ℕ → ℕ → FloodingState
+enterOn x k q r known = takeInOn (tellOn (sitOn x k q r known) k q) k q
 
 -- The proposal of the lowest of some cards.
 abbrev pub proposalOf : List (List (Option ℕ)) → ℕ → Option ℕ → Option ℕ
 proposalOf t k None = None
 proposalOf t k (Some p) = ballotIn t k p
 
-unfoldable pub decideOn : FloodingState → ℕ → ℕ → FloodingState
+abbrev pub decideOn : FloodingState → ℕ → ℕ → FloodingState
 decideOn x k q =
     record {
       cards = x .cards;
@@ -103,7 +118,7 @@ decideOn x k q =
     }
 
 -- A card moves on that has proposed, has not decided, and has counted every card that it does not suspect.
-unfoldable pub mayMove : FloodingState → ℕ → ℕ → Bool
+abbrev pub mayMove : FloodingState → ℕ → ℕ → Bool
 mayMove x k q = ltb q (x .cards .count) && (not (isSome (ballotIn (x .decisions) k q)) && ready (x .cards) q (seatIn (x .seats) k q))
 
 -- From the last round it decides, from any other it enters the next.
@@ -132,15 +147,7 @@ abbrev pub keepOn : FloodingState → Item LoadState → FloodingState
 keepOn x y = record { cards = x .cards; proposals = x .proposals; decisions = x .decisions; seats = x .seats; wire = x .wire; kept = x .kept ++ y ∷ [] }
 
 abbrev pub hearOn : FloodingState → Item LoadState → FloodingState
-hearOn x y =
-    record {
-      cards = x .cards;
-      proposals = x .proposals;
-      decisions = x .decisions;
-      seats = withSeat (x .seats) (y .load .instance) (y .to) (hearing (x .cards) (y .to) (y .from) (y .load .known) (seatIn (x .seats) (y .load .instance) (y .to)));
-      wire = x .wire;
-      kept = x .kept;
-    }
+hearOn x y = seatOn x (y .load .instance) (y .to) (hearing (x .cards) (y .to) (y .from) (y .load .known) (seatIn (x .seats) (y .load .instance) (y .to)))
 
 -- Nothing happens to a card that has decided, nor by an item from a card that it suspects. An item of a later round is kept; one of
 -- its own round is heard, and the card moves as often as it can; one of a past round does nothing.

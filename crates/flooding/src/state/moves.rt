@@ -5,10 +5,10 @@ ghost use Rattle.std.specs.Options.{isSome, mapped};
 ghost use Rattle.notes.specs.Models.{bits};
 ghost use Rattle.notes.specs.Sets.{low};
 ghost use Rattle.shared.specs.Tables.{ballotsOf, ballotIn};
-ghost use Rattle.flooding.specs.Flooding.{floodingOf, proposalOf, enterOn, decideOn, mayMove, moveOn, stepOn, settleOn, throughOn, arriveOn, hearOn};
+ghost use Rattle.flooding.specs.Flooding.{floodingOf, proposalOf, seatOn, sitOn, tellOn, takeInOn, enterOn, decideOn, mayMove, moveOn, stepOn, stepsOn, settleOn, throughOn, arriveOn, hearOn};
 ghost use Rattle.flooding.specs.Mail.{itemState};
 ghost use Rattle.flooding.specs.Room.{demand, roundsAfter};
-ghost use Rattle.flooding.specs.Seats.{seatIn};
+ghost use Rattle.flooding.specs.Seats.{seatOf, seatIn};
 use super::Flooding;
 use crate::mail::Load;
 use crate::seats::Seat;
@@ -17,20 +17,54 @@ use notes::set::NoteSet;
 use shared::wire::Item;
 
 impl Flooding {
-    // The card counts itself, sends what it knows, and only then takes in what was kept for the round.
+    // The card enters a round: it sends what it knows, and only then takes in what was kept for the round.
     pub(super) fn enter(&mut self, instance: usize, card: usize, round: usize, known: NoteSet)
         requires { ⌜ (card < floodingOf (now self) .cards .count) × (demand (floodingOf (now self) .wire) (floodingOf (now self) .kept) (floodingOf (now self) .proposals) (floodingOf (now self) .seats) + 5 * roundsAfter round + 5 ≤ 5760 + 5 * roundsAfter (seatIn (floodingOf (now self) .seats) instance card .round)) ⌝ }
         ensures { λ _. ⌜ floodingOf (now (self .exit)) ≡ enterOn (floodingOf (now (self .entry))) instance card round (bits known) ⌝ }
     {
+        self.sit(instance, card, round, known);
+        self.tell(instance, card);
+        self.take_in(instance, card);
+    }
+
+    // The card has counted only itself.
+    fn sit(&mut self, instance: usize, card: usize, round: usize, known: NoteSet)
+        requires { ⌜ (card < floodingOf (now self) .cards .count) × (demand (floodingOf (now self) .wire) (floodingOf (now self) .kept) (floodingOf (now self) .proposals) (floodingOf (now self) .seats) + 5 * roundsAfter round + 5 ≤ 5760 + 5 * roundsAfter (seatIn (floodingOf (now self) .seats) instance card .round)) ⌝ }
+        ensures state { λ _. ⌜ floodingOf (now (self .exit)) ≡ sitOn (floodingOf (now (self .entry))) instance card round (bits known) ⌝ }
+        ensures room { λ _. ⌜ (card < floodingOf (now (self .exit)) .cards .count) × (demand (floodingOf (now (self .exit)) .wire) (floodingOf (now (self .exit)) .kept) (floodingOf (now (self .exit)) .proposals) (floodingOf (now (self .exit)) .seats) + 5 ≤ 5760) ⌝ }
+    {
+        let seat = Seat::enter(card, round, known);
+        self.put_seat(instance, card, seat);
+    }
+
+    fn put_seat(&mut self, instance: usize, card: usize, seat: Seat)
+        requires { ⌜ demand (floodingOf (now self) .wire) (floodingOf (now self) .kept) (floodingOf (now self) .proposals) (floodingOf (now self) .seats) + 5 * roundsAfter (seat .round) ≤ 5760 + 5 * roundsAfter (seatIn (floodingOf (now self) .seats) instance card .round) ⌝ }
+        ensures state { λ _. ⌜ floodingOf (now (self .exit)) ≡ seatOn (floodingOf (now (self .entry))) instance card (seatOf seat) ⌝ }
+        ensures room { λ _. ⌜ demand (floodingOf (now (self .exit)) .wire) (floodingOf (now (self .exit)) .kept) (floodingOf (now (self .exit)) .proposals) (floodingOf (now (self .exit)) .seats) + 5 * roundsAfter (seatIn (floodingOf (now (self .entry)) .seats) instance card .round) ≤ demand (floodingOf (now (self .entry)) .wire) (floodingOf (now (self .entry)) .kept) (floodingOf (now (self .entry)) .proposals) (floodingOf (now (self .entry)) .seats) + 5 * roundsAfter (seat .round) ⌝ }
+    {
+        self.seats.put(instance, card, seat);
+    }
+
+    // What the card knows goes to every other card.
+    fn tell(&mut self, instance: usize, card: usize)
+        requires { ⌜ (card < floodingOf (now self) .cards .count) × (demand (floodingOf (now self) .wire) (floodingOf (now self) .kept) (floodingOf (now self) .proposals) (floodingOf (now self) .seats) + 5 ≤ 5760) ⌝ }
+        ensures { λ _. ⌜ floodingOf (now (self .exit)) ≡ tellOn (floodingOf (now (self .entry))) instance card ⌝ }
+    {
+        let seat = self.seats.of(instance, card);
         let load = Load {
             instance,
-            round,
-            known,
+            round: seat.round,
+            known: seat.known,
         };
         self.wire.send(&self.cards, card, load);
-        let entered = Seat::enter(card, round, known);
-        let seat = self.kept.take_in(&self.cards, instance, card, entered);
-        self.seats.put(instance, card, seat);
+    }
+
+    fn take_in(&mut self, instance: usize, card: usize)
+        ensures { λ _. ⌜ floodingOf (now (self .exit)) ≡ takeInOn (floodingOf (now (self .entry))) instance card ⌝ }
+    {
+        let seat = self.seats.of(instance, card);
+        let taken = self.kept.take_in(&self.cards, instance, card, seat);
+        self.seats.put(instance, card, taken);
     }
 
     fn decide(&mut self, instance: usize, card: usize)
@@ -88,11 +122,18 @@ impl Flooding {
         }
     }
 
-    // The card moves as often as it can.
+    // The card moves as often as it can: there are as many rounds as cards, and the last move is the decision.
     pub(super) fn settle(&mut self, instance: usize, card: usize)
         ensures { λ _. ⌜ floodingOf (now (self .exit)) ≡ settleOn (floodingOf (now (self .entry))) instance card ⌝ }
     {
-        for _turn in 0..self.cards.count() {
+        let turns = self.cards.count();
+        self.steps(instance, card, turns);
+    }
+
+    fn steps(&mut self, instance: usize, card: usize, turns: usize)
+        ensures { λ _. ⌜ floodingOf (now (self .exit)) ≡ stepsOn (floodingOf (now (self .entry))) instance card turns ⌝ }
+    {
+        for _turn in 0..turns {
             self.step(instance, card);
         }
     }
@@ -102,8 +143,14 @@ impl Flooding {
         ensures { λ _. ⌜ floodingOf (now (self .exit)) ≡ throughOn (floodingOf (now (self .entry))) card 32 ⌝ }
     {
         for instance in 0..32 {
-            self.settle(instance, card);
+            self.settle_in(instance, card);
         }
+    }
+
+    fn settle_in(&mut self, instance: usize, card: usize)
+        ensures { λ _. ⌜ floodingOf (now (self .exit)) ≡ settleOn (floodingOf (now (self .entry))) instance card ⌝ }
+    {
+        self.settle(instance, card);
     }
 
     // An item has come, off a wire that it leaves room on.

@@ -2,14 +2,13 @@ use mathlib.Core.Path.{_≡_, ap}
 use Prim.Native.Nat.{ℕ, _+_, _<_}
 use native.Mathlib.Omega.{arith}
 use Rattle.std.proofs.shelf.Tests.{and-parts, ltb-true}
-use Rattle.flooding.specs.Flooding.{floodingOf, mayMove}
+use Rattle.flooding.specs.Flooding.{floodingOf}
 use Rattle.flooding.specs.Room.{roundsAfter}
 use Rattle.flooding.specs.Seats.{SeatState, seatIn}
 use Rattle.flooding.proofs.Rooms.{rounds-step}
 use Rattle.flooding.proofs.state.Flooding.move_on.Needs as need
 
 pub enter-requires : need.enter-requires
-unfolding mayMove
 enter-requires c κs =
     let s = c .args .self .now in
     let x = floodingOf s in

@@ -13,7 +13,7 @@ unfolding throughOn
 loop-instance-again c =
     let x = floodingOf (c .args .self .now) in
     let k = c .loop-instance .instance in
-    c .settle .ensures ∙ ap (λ z. settleOn z k (c .args .card)) (c .loop-instance .inv) ∙ sym (ap (throughOn x (c .args .card)) (add-one k))
+    c .settle-in .ensures ∙ ap (λ z. settleOn z k (c .args .card)) (c .loop-instance .inv) ∙ sym (ap (throughOn x (c .args .card)) (add-one k))
 
 pub returns : need.returns
 returns c =

@@ -2,7 +2,7 @@ use mathlib.Core.Path.{_≡_, refl, sym, ap, _∙_}
 use native.Mathlib.Numerals.{add-one}
 use native.Mathlib.Omega.{arith}
 use Rattle.flooding.specs.Flooding.{floodingOf, stepOn, stepsOn}
-use Rattle.flooding.proofs.state.Flooding.settle.Needs as need
+use Rattle.flooding.proofs.state.Flooding.steps.Needs as need
 
 pub loop-turn-holds : need.loop-turn-holds
 unfolding stepsOn
@@ -19,5 +19,5 @@ loop-turn-again c =
 pub returns : need.returns
 returns c =
     let x = floodingOf (c .args .self .now) in
-    let e : c .loop-turn .-turn ≡ x .cards .count = omega arith in
+    let e : c .loop-turn .-turn ≡ c .args .turns = omega arith in
     c .loop-turn .inv ∙ ap (stepsOn x (c .args .instance) (c .args .card)) e
