@@ -1,17 +1,16 @@
 -- `new` and the calls make boards that hold together.
 use mathlib.Core.Path.{_≡_, refl, sym, ap, subst, _∙_}
-use mathlib.Core.Bool.{Bool, true, false, cond, not, _||_, _&&_}
-use mathlib.Core.List.{List, [], _∷_, _++_}
+use mathlib.Core.Bool.{Bool, true, false, _||_}
+use mathlib.Core.List.{List}
 use mathlib.Core.Logic.{⊎-elim}
-use Prim.Native.Nat.{ℕ, _^_, _≤_, _<_}
+use Prim.Native.Nat.{ℕ, _<_}
 use native.Mathlib.Omega.{arith}
 use borrow.Author.Tests.{clash}
 use lib.Dec.{eqb}
-use lib.ListN.{length, getD, set, length-set}
+use lib.ListN.{length, set, length-set}
 use Rattle.std.specs.Finite.{nth}
 use Rattle.std.specs.Holes.{removed}
 use Rattle.std.specs.Options.{isSome}
-use Rattle.std.specs.shelf.Lists.{All}
 use Rattle.std.specs.declared.option.Option.{Option}
 use Rattle.std.specs.declared.option.Option.the-variants.{Some, None}
 use Rattle.std.proofs.shelf.Elements.{all-append, all-weaker}
@@ -21,9 +20,9 @@ use Rattle.notes.specs.Sets.{has}
 use Rattle.notes.proofs.Bits.{has-none}
 use Rattle.parts.specs.Refusals.{postAnswer, carryAnswer, loseAnswer, crashAnswer, suspectAnswer}
 use Rattle.parts.proofs.Accepted.{post-accepted, lose-accepted, crash-accepted, suspect-accepted}
-use Rattle.shared.specs.Cards.{CardState, crashedIn, withCrash, netOf}
+use Rattle.shared.specs.Cards.{crashedIn, withCrash}
 use Rattle.shared.specs.Tables.{posterIn, setIn, withNote}
-use Rattle.shared.specs.Wires.{item, goesTo, sent, elsewhere, withoutTo, anyOf}
+use Rattle.shared.specs.Wires.{item, sent, elsewhere, anyOf}
 use Rattle.shared.specs.declared.wire.Item.{Item}
 use Rattle.shared.proofs.Items.{all-removed, all-nth, all-left, all-sent-are, any-append, any-split, any-left, any-sent}
 use Rattle.shared.proofs.Lists.{written, same-all}

@@ -1,18 +1,15 @@
 -- Each call, from what it makes of a board to what the interface says of it.
 use mathlib.Core.Path.{_≡_, refl, sym, ap, subst, _∙_}
-use mathlib.Core.Bool.{Bool, true, false, cond, _||_, _&&_}
-use mathlib.Core.List.{List, [], _∷_, _++_, map}
-use mathlib.Core.Logic.{_⊎_, inl, inr, ⊎-elim}
-use Prim.Native.Nat.{ℕ, _+_, _≤_, _<_}
+use mathlib.Core.Bool.{Bool, true, false}
+use mathlib.Core.List.{List, []}
+use mathlib.Core.Logic.{_⊎_, inr, ⊎-elim}
+use Prim.Native.Nat.{ℕ, _<_}
 use native.Mathlib.Omega.{arith}
 use borrow.Author.Tests.{clash}
-use lib.Dec.{eqb}
-use lib.ListN.{length, getD, set}
+use lib.ListN.{length}
 use Rattle.std.specs.Finite.{nth}
 use Rattle.std.specs.Holes.{removed}
 use Rattle.std.specs.Options.{isSome}
-use Rattle.std.specs.shelf.Lists.{All}
-use Rattle.std.specs.declared.option.Option.{Option}
 use Rattle.std.specs.declared.option.Option.the-variants.{Some, None}
 use Rattle.std.proofs.shelf.Edits.{length-removed}
 use Rattle.std.proofs.shelf.Elements.{all-map, all-weaker}
@@ -26,7 +23,7 @@ use Rattle.parts.specs.Broadcasting.{Started, HandedMore, Posted, Carried, Lost
 use Rattle.parts.proofs.Accepted.{post-accepted, crash-accepted, suspect-accepted}
 use Rattle.shared.specs.Cards.{crashedIn, AllSuspected}
 use Rattle.shared.specs.Tables.{posterIn, setIn, withNote}
-use Rattle.shared.specs.Wires.{senders, sent, elsewhere, withoutTo, anyOf}
+use Rattle.shared.specs.Wires.{senders, sent, elsewhere, anyOf}
 use Rattle.shared.specs.declared.wire.Item.{Item}
 use Rattle.shared.proofs.Items.{all-nth, part-left, length-left}
 use Rattle.shared.proofs.Lists.{written, same-all}

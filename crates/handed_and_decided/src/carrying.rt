@@ -3,7 +3,7 @@ ghost use mathlib.Core.Bool.{true};
 ghost use mathlib.Core.List.{[]};
 ghost use Prim.Native.Nat.{ℕ, _-_, _<_, _≤_};
 ghost use lib.ListN.{length};
-ghost use Rattle.std.specs.Options.{isSome, Cases};
+ghost use Rattle.std.specs.Options.{Cases};
 ghost use Rattle.notes.specs.Models.{bits};
 ghost use Rattle.notes.specs.Sets.{has};
 ghost use Rattle.parts.specs.Shown.{shown};

@@ -1,9 +1,8 @@
--- What an accepted call says of its arguments, and where it leads.
-use mathlib.Core.Path.{_≡_, ap, _∙_}
-use mathlib.Core.Bool.{Bool, true, false, cond}
+-- What an accepted call says of its arguments.
+use mathlib.Core.Path.{_≡_}
+use mathlib.Core.Bool.{true, false}
 use Prim.Native.Nat.{ℕ, _<_}
 use native.Mathlib.Omega.{arith}
-use lib.Dec.{eqb}
 use lib.ListN.{length, getD}
 use Rattle.std.specs.Options.{isSome}
 use Rattle.std.proofs.shelf.Ways.{tells}
@@ -27,7 +26,3 @@ crash-accepted v p h = grind (arith, tells)
 
 pub suspect-accepted : (v : Net) (q p : ℕ) → suspectAnswer v q p ≡ 0 → (q < v .cards) × (p < v .cards) × (v .crashed q ≡ false) × (v .crashed p ≡ true)
 suspect-accepted v q p h = grind (arith, tells)
-
--- A call from a state that is known, and that it accepts.
-pub led-to : {S : Type 0} (answer : S → ℕ) (next : S → S) (s t u : S) (n : ℕ) → n ≡ answer s → t ≡ cond (eqb n 0) (next s) s → s ≡ u → answer u ≡ 0 → t ≡ next u
-led-to answer next s t u n a e k z = e ∙ ap (λ j. cond (eqb j 0) (next s) s) (a ∙ ap answer k ∙ z) ∙ ap next k

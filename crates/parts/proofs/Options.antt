@@ -1,6 +1,6 @@
 -- An option that holds something.
-use mathlib.Core.Path.{_≡_, refl, sym}
-use mathlib.Core.Bool.{true, false}
+use mathlib.Core.Path.{_≡_, refl}
+use mathlib.Core.Bool.{true}
 use borrow.Author.Tests.{clash}
 use Rattle.std.specs.Options.{isSome}
 use Rattle.std.specs.declared.option.Option.{Option}
@@ -9,7 +9,3 @@ use Rattle.std.specs.declared.option.Option.the-variants.{Some, None}
 pub some-held : {X : Type 0} (o : Option X) → isSome o ≡ true → (x : X) × (o ≡ Some x)
 some-held None h = absurd (clash h)
 some-held (Some x) h = (x, refl)
-
-pub none-held : {X : Type 0} (o : Option X) → isSome o ≡ false → o ≡ None
-none-held None h = refl
-none-held (Some x) h = absurd (clash (sym h))

@@ -1,9 +1,9 @@
 -- What a proposal and a carry change in the tables of a register.
-use mathlib.Core.Path.{_≡_, refl, sym, ap, subst, _∙_}
+use mathlib.Core.Path.{_≡_, refl, sym, ap, _∙_}
 use mathlib.Core.Bool.{Bool, true, false, cond, not, _||_, _&&_}
 use mathlib.Core.List.{List, []}
 use mathlib.Core.Logic.{_⊎_, inl, inr, ⊎-elim}
-use Prim.Native.Nat.{ℕ, _≤_, _<_}
+use Prim.Native.Nat.{ℕ, _<_}
 use native.Mathlib.Omega.{arith}
 use borrow.Author.Tests.{clash}
 use lib.Dec.{eqb}
@@ -13,7 +13,7 @@ use Rattle.std.specs.Options.{isSome}
 use Rattle.std.specs.declared.option.Option.{Option}
 use Rattle.std.specs.declared.option.Option.the-variants.{Some, None}
 use Rattle.std.proofs.shelf.Lists.{getD-past}
-use Rattle.std.proofs.shelf.Tests.{cases-bool, cases-lt, cases-eq, cond-true, cond-false, cond-both, and-parts, eqb-true}
+use Rattle.std.proofs.shelf.Tests.{cases-bool, cases-lt, cond-true, cond-false, cond-both, and-parts, eqb-true}
 use Rattle.shared.specs.Tables.{ballotIn, withBallot}
 use Rattle.shared.proofs.Lists.{written, row-written, rows-kept}
 use Rattle.register.specs.Held.{heldIn, filled}

@@ -1,13 +1,13 @@
 -- `new` and the calls make registers that hold together.
 use mathlib.Core.Path.{_≡_, refl, sym, ap, subst, _∙_}
 use mathlib.Core.Bool.{Bool, true, false, cond, not, _||_, _&&_}
-use mathlib.Core.List.{List, [], _∷_, _++_}
+use mathlib.Core.List.{List, [], _∷_}
 use mathlib.Core.Logic.{_⊎_, inl, inr, ⊎-elim}
-use Prim.Native.Nat.{ℕ, _^_, _≤_, _<_}
+use Prim.Native.Nat.{ℕ, _^_, _<_}
 use native.Mathlib.Omega.{arith}
 use borrow.Author.Tests.{clash}
 use lib.Dec.{eqb}
-use lib.ListN.{length, getD, replicate}
+use lib.ListN.{length, replicate}
 use Rattle.std.specs.Finite.{nth}
 use Rattle.std.specs.Holes.{removed}
 use Rattle.std.specs.Options.{isSome}
@@ -15,7 +15,7 @@ use Rattle.std.specs.shelf.Lists.{All}
 use Rattle.std.specs.declared.option.Option.{Option}
 use Rattle.std.specs.declared.option.Option.the-variants.{Some, None}
 use Rattle.std.proofs.shelf.Elements.{all-append, all-weaker}
-use Rattle.std.proofs.shelf.Tests.{or-cases, or-left, or-right, or-parts, and-parts, and-from, and-left, eqb-true, eq-eqb, not-true, not-from-true, not-from-false, cases-bool, cond-true, cond-false, both-ways}
+use Rattle.std.proofs.shelf.Tests.{or-cases, or-left, or-right, or-parts, and-parts, and-from, and-left, eq-eqb, not-from-true, not-from-false, cases-bool, cond-true, cond-false, both-ways}
 use Rattle.parts.specs.Refusals.{proposeAnswer, carryAnswer, loseAnswer, crashAnswer, suspectAnswer}
 use Rattle.parts.proofs.Accepted.{propose-accepted, crash-accepted, suspect-accepted}
 use Rattle.parts.proofs.Options.{some-held}
@@ -27,7 +27,7 @@ use Rattle.shared.proofs.Items.{all-removed, all-nth, any-append, any-split}
 use Rattle.shared.proofs.Lists.{same-all, same-rows, new-row}
 use Rattle.shared.proofs.Nets.{new-sound, crash-sound, crash-more, suspect-sound}
 use Rattle.shared.proofs.Taken.{carried-item, lost-item}
-use Rattle.register.specs.Held.{heldIn, filled}
+use Rattle.register.specs.Held.{heldIn}
 use Rattle.register.specs.Register.{RegisterState, seen, newRegister, proposeOn, carryOn, fillBy, decideBy, loseOn, crashOn, suspectOn}
 use Rattle.register.specs.Made.{Underway, brings, Shaped, MadeRegister}
 use Rattle.register.proofs.Changes.{some-or, which, same-place, ballot-written, shaped-after, instance-below, filled-length, filled-stays, filled-holds, filled-from}

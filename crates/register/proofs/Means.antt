@@ -1,22 +1,21 @@
 -- Each call, from what it makes of a register to what the interface says of it.
 use mathlib.Core.Path.{_≡_, refl, sym, ap, _∙_}
-use mathlib.Core.Bool.{Bool, true, false, cond, not, _&&_}
-use mathlib.Core.List.{List, [], _∷_}
-use mathlib.Core.Logic.{_⊎_, inl, inr, ⊎-elim}
-use Prim.Native.Nat.{ℕ, _^_, _≤_, _<_}
+use mathlib.Core.Bool.{Bool, not, _&&_}
+use mathlib.Core.List.{List, []}
+use mathlib.Core.Logic.{_⊎_, inl, ⊎-elim}
+use Prim.Native.Nat.{ℕ, _^_, _<_}
 use native.Mathlib.Omega.{arith}
 use borrow.Author.Tests.{clash}
 use lib.Dec.{eqb}
 use lib.ListN.{length}
 use Rattle.std.specs.Finite.{nth}
 use Rattle.std.specs.Holes.{removed}
-use Rattle.std.specs.Options.{isSome}
 use Rattle.std.specs.declared.option.Option.the-variants.{Some, None}
 use Rattle.std.proofs.shelf.Edits.{length-removed}
 use Rattle.std.proofs.shelf.Elements.{all-map, all-weaker}
 use Rattle.std.proofs.shelf.Lists.{length-push, nil-from-length}
 use Rattle.std.proofs.shelf.Tests.{or-cases, and-parts, cases-bool, cond-true, cond-false, not-true, both-ways}
-use Rattle.parts.specs.Views.{ConsensusView, Runs, Quiet}
+use Rattle.parts.specs.Views.{ConsensusView}
 use Rattle.parts.specs.Refusals.{proposeAnswer, carryAnswer, loseAnswer, crashAnswer, suspectAnswer}
 use Rattle.parts.specs.Deciding.{Started, DecidedMore, Proposed, Carried, Lost, Crashed, Suspected, Lawful}
 use Rattle.parts.proofs.Accepted.{crash-accepted, suspect-accepted}

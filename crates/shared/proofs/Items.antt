@@ -1,19 +1,17 @@
 -- What holds of all items of a list, and of some, as items join, are taken and are let go.
-use mathlib.Core.Path.{_≡_, refl, sym, ap, subst, _∙_}
-use mathlib.Core.Bool.{Bool, true, false, cond, not, _||_, _&&_}
+use mathlib.Core.Path.{_≡_, refl, ap, subst, _∙_}
+use mathlib.Core.Bool.{Bool, true, cond, _||_}
 use mathlib.Core.List.{List, [], _∷_, _++_, map}
 use mathlib.Core.Logic.{⊎-elim}
 use Prim.Native.Nat.{ℕ, zero, suc, _≤_, _<_}
 use native.Mathlib.Omega.{arith}
-use borrow.Author.Tests.{clash}
 use lib.ListN.{length, take, drop}
 use Rattle.std.specs.Finite.{nth}
 use Rattle.std.specs.Holes.{removed}
 use Rattle.std.specs.shelf.Lists.{All, kept-by}
-use Rattle.std.specs.declared.option.Option.{Option}
-use Rattle.std.specs.declared.option.Option.the-variants.{Some, None}
+use Rattle.std.specs.declared.option.Option.the-variants.{Some}
 use Rattle.std.proofs.shelf.Elements.{all-append, all-take, all-drop}
-use Rattle.std.proofs.shelf.Tests.{cases-bool, cases-lt, cond-true, cond-false, cond-both, or-left, or-right, or-cases}
+use Rattle.std.proofs.shelf.Tests.{cases-lt, cond-true, cond-both, or-left, or-right, or-cases}
 use Rattle.std.proofs.shelf.Ways.{tells}
 use Rattle.parts.specs.Nets.{PartOf}
 use Rattle.parts.specs.Nets.PartOf.{none, stays, leaves}

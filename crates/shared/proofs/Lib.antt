@@ -4,3 +4,4 @@ pub mod Items
 pub mod Nets
 pub mod Free
 pub mod Taken
+pub mod Changes

@@ -1,9 +1,9 @@
 -- The cards: what is kept by a crash and a suspicion, and what the interfaces say of them.
-use mathlib.Core.Path.{_≡_, refl, sym, ap, subst, _∙_}
+use mathlib.Core.Path.{_≡_, refl, sym, subst, _∙_}
 use mathlib.Core.Bool.{Bool, true, false, cond, _||_, _&&_}
-use mathlib.Core.List.{List, [], _∷_}
-use mathlib.Core.Logic.{_⊎_, inl, inr, ⊎-elim}
-use Prim.Native.Nat.{ℕ, zero, suc, _≤_, _<_}
+use mathlib.Core.List.{List, []}
+use mathlib.Core.Logic.{_⊎_, ⊎-elim}
+use Prim.Native.Nat.{ℕ, _≤_, _<_}
 use native.Mathlib.Omega.{arith}
 use borrow.Author.Tests.{clash}
 use lib.Dec.{eqb, ltb}
@@ -11,10 +11,8 @@ use lib.ListN.{length, getD, set, replicate, length-set}
 use Rattle.std.specs.shelf.Lists.{All}
 use Rattle.std.proofs.shelf.Tests.{or-cases, or-right, and-parts, eqb-true}
 use Rattle.std.proofs.shelf.Ways.{tells}
-use Rattle.parts.specs.Views.{Net, Runs, Quiet}
-use Rattle.parts.specs.Refusals.{crashAnswer, suspectAnswer}
+use Rattle.parts.specs.Views.{Quiet}
 use Rattle.parts.specs.Nets.{PartOf, NewNet, SameCards, NetCrashed, NetSuspected, LawfulNet}
-use Rattle.parts.proofs.Accepted.{crash-accepted, suspect-accepted}
 use Rattle.shared.specs.Cards.{CardState, crashedIn, suspectsIn, newCards, withCrash, withSuspicion, netOf, AllSuspected, SoundCards}
 use Rattle.shared.proofs.Lists.{written, row-written, rows-kept, same-all, same-rows, new-row}
 

@@ -1,13 +1,13 @@
 -- The wire: items by place, room for what is sent, and a pass round the ring.
 use mathlib.Core.Path.{_≡_, refl, sym, ap, _∙_}
-use mathlib.Core.Bool.{Bool, true, false, cond, not, _&&_}
+use mathlib.Core.Bool.{true, cond}
 use mathlib.Core.List.{List, [], _∷_, _++_, map, append-assoc, append-nil}
 use mathlib.Core.Logic.{⊎-elim}
 use Prim.Native.Nat.{ℕ, zero, suc, _+_, _≤_, _<_}
 use native.Mathlib.Numerals.{add-one}
 use native.Mathlib.Omega.{arith}
-use lib.Dec.{eqb, ltb}
-use lib.ListN.{length, getD, take, drop}
+use lib.Dec.{ltb}
+use lib.ListN.{length, getD}
 use Rattle.std.specs.Finite.{nth}
 use Rattle.std.specs.Holes.{removed}
 use Rattle.std.specs.Options.{isSome, valueOr, mapped, Cases}
@@ -17,7 +17,7 @@ use Rattle.std.proofs.shelf.Lists.{length-append, length-map, take-all, drop-al
 use Rattle.std.proofs.shelf.Maps.{nth-read, nth-past}
 use Rattle.std.proofs.shelf.Tests.{cases-bool, cases-lt, cond-true, cond-false, cond-both, and-right, not-from-true, eq-eqb, lt-ltb, le-ltb}
 use Rattle.std.proofs.shelf.Ways.{tells}
-use Rattle.shared.specs.Cards.{CardState, crashedIn}
+use Rattle.shared.specs.Cards.{CardState}
 use Rattle.shared.specs.Wires.{item, senders, joined, goesTo, sending, sent, elsewhere, withoutTo, turned, turnedTimes}
 use Rattle.shared.specs.declared.wire.Item.{Item}
 

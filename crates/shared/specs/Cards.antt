@@ -15,7 +15,7 @@ pub record CardState : Type 0 where
   pub suspicions : List (List Bool)
 
 abbrev pub cardsOf : Cards → CardState
-cardsOf c = record { count = c .count; crashed = c .crashed; suspicions = c .suspected }
+cardsOf c = record { count = c .size; crashed = c .crashed; suspicions = c .suspected }
 
 abbrev pub crashedIn : CardState → ℕ → Bool
 crashedIn c p = getD (c .crashed) p false

@@ -1,7 +1,7 @@
 -- The tables of the parts: who posted each note, a set of notes for each card, and a proposal or decision by instance and card.
-use mathlib.Core.Bool.{Bool, true, false, cond}
 use mathlib.Core.List.{List, [], _∷_, map}
 use Prim.Native.Nat.{ℕ, _+_}
+use lib.Bits.{bitOr}
 use lib.ListN.{getD, set, replicate}
 use Rattle.std.specs.Options.{mapped}
 use Rattle.std.specs.declared.option.Option.{Option}
@@ -45,6 +45,9 @@ setIn t p = getD t p 0
 
 abbrev pub withNote : List ℕ → ℕ → ℕ → List ℕ
 withNote t p m = set t p (added (setIn t p) m)
+
+abbrev pub withNotes : List ℕ → ℕ → ℕ → List ℕ
+withNotes t p s = set t p (bitOr (setIn t p) s)
 
 -- A set of notes, or none, by instance and card.
 

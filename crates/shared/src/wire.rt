@@ -44,7 +44,7 @@ impl<P: Copy> Wire<P> {
         ensures items { λ r. ⌜ r ≡ length (itemsOf (now (self .entry))) ⌝ }
         ensures senders { λ r. ⌜ r ≡ length (senders (itemsOf (now (self .entry)))) ⌝ }
     {
-        self.items.len()
+        self.counted()
     }
 
     // The sender of an item, if there is such an item.
@@ -149,6 +149,13 @@ impl<P: Copy> Wire<P> {
             Some(found) => Some(*found),
             None => None,
         }
+    }
+
+    fn counted(&self) -> usize
+        ensures items { λ r. ⌜ r ≡ length (itemsOf (now (self .entry))) ⌝ }
+        ensures senders { λ r. ⌜ r ≡ length (senders (itemsOf (now (self .entry)))) ⌝ }
+    {
+        self.items.len()
     }
 
     fn look(&self, item: usize) -> Option<usize>

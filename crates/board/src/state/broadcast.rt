@@ -14,6 +14,9 @@ use shared::wire::Wire;
 use std::alloc::AllocError;
 use std::alloc::Global;
 
+// A post puts one item for each of at most six cards.
+const ITEMS_OF_A_POST: u32 = 6;
+
 pub impl Broadcast for Board as BoardBroadcast {
     ghost State = { BoardState };
 
@@ -94,7 +97,7 @@ pub impl Broadcast for Board as BoardBroadcast {
     }
 
     fn bound() -> u32 {
-        6
+        ITEMS_OF_A_POST
     }
 
     fn card_count(&self) -> usize {

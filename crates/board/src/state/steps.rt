@@ -18,6 +18,7 @@ use shared::wire::Wire;
 pub(super) fn announce(wire: &mut Wire<usize>, cards: &Cards, note: usize)
     requires { ⌜ length (itemsOf (now wire)) + cardsOf (now cards) .count ≤ roomOf (now wire) ⌝ }
     ensures items { λ _. ⌜ itemsOf (now (wire .exit)) ≡ itemsOf (now (wire .entry)) ++ sent (cardsOf (now (cards .entry))) 7 note (cardsOf (now (cards .entry)) .count) ⌝ }
+    ensures most { λ _. ⌜ length (itemsOf (now (wire .exit))) ≤ length (itemsOf (now (wire .entry))) + cardsOf (now (cards .entry)) .count ⌝ }
     ensures room { λ _. ⌜ roomOf (now (wire .exit)) ≡ roomOf (now (wire .entry)) ⌝ }
 {
     wire.send(cards, 7, note);

@@ -13,6 +13,9 @@ use shared::wire::Wire;
 use std::alloc::AllocError;
 use std::alloc::Global;
 
+// A proposal puts one item on the wire.
+const ITEMS_OF_A_PROPOSAL: u32 = 1;
+
 pub impl Consensus for Register as RegisterConsensus {
     ghost State = { RegisterState };
 
@@ -99,7 +102,7 @@ pub impl Consensus for Register as RegisterConsensus {
     }
 
     fn bound() -> u32 {
-        1
+        ITEMS_OF_A_PROPOSAL
     }
 
     fn card_count(&self) -> usize {

@@ -1,7 +1,7 @@
 ghost use mathlib.Core.Path.{_≡_};
 ghost use mathlib.Core.Bool.{cond};
 ghost use mathlib.Core.List.{_++_, _∷_, []};
-ghost use Prim.Native.Nat.{_<_};
+ghost use Prim.Native.Nat.{_+_, _<_};
 ghost use lib.ListN.{length};
 ghost use Rattle.std.specs.Options.{mapped};
 ghost use Rattle.notes.specs.Models.{bits};
@@ -18,6 +18,7 @@ use shared::wire::Wire;
 pub(super) fn submit(wire: &mut Wire<usize>, card: usize, instance: usize)
     requires { ⌜ length (itemsOf (now wire)) < roomOf (now wire) ⌝ }
     ensures items { λ _. ⌜ itemsOf (now (wire .exit)) ≡ itemsOf (now (wire .entry)) ++ item card 7 instance ∷ [] ⌝ }
+    ensures one { λ _. ⌜ length (itemsOf (now (wire .exit))) ≡ length (itemsOf (now (wire .entry))) + 1 ⌝ }
     ensures room { λ _. ⌜ roomOf (now (wire .exit)) ≡ roomOf (now (wire .entry)) ⌝ }
 {
     wire.join(Item {

@@ -2,7 +2,7 @@ ghost use mathlib.Core.Path.{_≡_};
 ghost use Prim.Native.Nat.{_<_};
 ghost use lib.ListN.{set, replicate};
 ghost use Rattle.notes.specs.Models.{bits};
-ghost use Rattle.shared.specs.Tables.{cardSetsOf, setIn, withNote};
+ghost use Rattle.shared.specs.Tables.{cardSetsOf, setIn, withNote, withNotes};
 use super::CardSets;
 use notes::set::NoteSet;
 
@@ -32,6 +32,14 @@ impl CardSets {
     {
         let held = self.of(card);
         self.put(card, held.with(note));
+    }
+
+    // Puts all the notes into the card's set.
+    pub fn add_all(&mut self, card: usize, notes: NoteSet)
+        ensures { λ _. ⌜ cardSetsOf (now (self .exit)) ≡ withNotes (cardSetsOf (now (self .entry))) card (bits notes) ⌝ }
+    {
+        let held = self.of(card);
+        self.put(card, held.union(notes));
     }
 
     fn held(&self, card: usize) -> NoteSet

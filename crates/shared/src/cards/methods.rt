@@ -14,7 +14,7 @@ impl Cards {
         ensures { λ r. ⌜ cardsOf r ≡ newCards count ⌝ }
     {
         Cards {
-            count: if count > 6 { 0 } else { count },
+            size: if count > 6 { 0 } else { count },
             crashed: [false; 6],
             suspected: [[false; 6]; 6],
         }
@@ -23,7 +23,7 @@ impl Cards {
     pub fn count(&self) -> usize
         ensures { λ r. ⌜ r ≡ cardsOf (now (self .entry)) .count ⌝ }
     {
-        self.count
+        self.size
     }
 
     pub fn has_crashed(&self, card: usize) -> bool
@@ -32,11 +32,11 @@ impl Cards {
         card < 6 && self.crashed[card]
     }
 
-    pub fn suspects(&self, by: usize, card: usize) -> bool
-        ensures { λ r. ⌜ r ≡ suspectsIn (cardsOf (now (self .entry))) by card ⌝ }
+    pub fn suspects(&self, who: usize, whom: usize) -> bool
+        ensures { λ r. ⌜ r ≡ suspectsIn (cardsOf (now (self .entry))) who whom ⌝ }
     {
-        if by < 6 && card < 6 {
-            self.suspected[by][card]
+        if who < 6 && whom < 6 {
+            self.suspected[who][whom]
         } else {
             false
         }
@@ -46,7 +46,7 @@ impl Cards {
         ensures answer { λ r. ⌜ answered r ≡ crashAnswer (netOf (cardsOf (now (self .entry))) [] 0) card ⌝ }
         ensures after { λ r. ⌜ cardsOf (now (self .exit)) ≡ cond (eqb (answered r) 0) (withCrash (cardsOf (now (self .entry))) card) (cardsOf (now (self .entry))) ⌝ }
     {
-        if card >= self.count {
+        if card >= self.count() {
             return Err(Refusal::NoSuchCard);
         }
         if self.crashed[card] {
@@ -60,7 +60,7 @@ impl Cards {
         ensures answer { λ r. ⌜ answered r ≡ suspectAnswer (netOf (cardsOf (now (self .entry))) [] 0) by card ⌝ }
         ensures after { λ r. ⌜ cardsOf (now (self .exit)) ≡ cond (eqb (answered r) 0) (withSuspicion (cardsOf (now (self .entry))) by card) (cardsOf (now (self .entry))) ⌝ }
     {
-        if by >= self.count || card >= self.count {
+        if by >= self.count() || card >= self.count() {
             return Err(Refusal::NoSuchCard);
         }
         if self.crashed[by] {
@@ -77,8 +77,8 @@ impl Cards {
     pub fn all_suspected(&self) -> bool
         ensures { λ r. ⌜ Decides r (AllSuspected (cardsOf (now (self .entry)))) ⌝ }
     {
-        for q in 0..self.count {
-            for p in 0..self.count {
+        for q in 0..self.count() {
+            for p in 0..self.count() {
                 if !self.crashed[q] && self.crashed[p] && !self.suspected[q][p] {
                     return false;
                 }

@@ -17,10 +17,11 @@ impl Posters {
         Posters { by: [None; 32] }
     }
 
-    pub fn of(&self, note: usize) -> Option<usize>
-        ensures { λ r. ⌜ r ≡ posterIn (postersOf (now (self .entry))) note ⌝ }
+    // Who has posted note m; a number above 31 is no note.
+    pub fn of(&self, m: usize) -> Option<usize>
+        ensures { λ r. ⌜ r ≡ posterIn (postersOf (now (self .entry))) m ⌝ }
     {
-        if note < 32 { self.by[note] } else { None }
+        if m < 32 { self.by[m] } else { None }
     }
 
     // Writes down that the card has posted the note, unless the post is refused.

@@ -1,14 +1,9 @@
 use mathlib.Core.Path.{_≡_, sym, ap}
-use Prim.Native.Nat.{_+_}
 use native.Mathlib.Omega.{arith}
-use lib.ListN.{length}
-use Rattle.std.proofs.shelf.Lists.{length-append}
 use Rattle.parts.proofs.Accepted.{post-accepted}
 use Rattle.shared.specs.Cards.{cardsOf}
 use Rattle.shared.specs.Tables.{postersOf, postsView, freeNotes}
-use Rattle.shared.specs.Wires.{itemsOf, sent}
 use Rattle.shared.proofs.Free.{one-less-free}
-use Rattle.shared.proofs.Wires.{length-sent}
 use Rattle.board.proofs.state.broadcast.BoardBroadcast.post.Needs as need
 
 -- The post takes one of the notes that were free, and with it the room of six items.
@@ -22,16 +17,6 @@ pub ghost-self-2 : need.ghost-self-2
 ghost-self-2 c =
     let s = c .args .self .now in
     let f = post-accepted (postsView (cardsOf (s .cards)) (postersOf (s .posters))) (c .args .card) (c .args .note) (sym (c .in-rest .ensures tt .answer)) in
-    let e : length (itemsOf (c .announce .last .wire)) ≡ _ = ap length (c .announce .ensures .items) in
-    let p : freeNotes (postersOf (c .post .last .self)) ≡ _ = ap freeNotes (c .in-rest .ensures tt .after) in (
-      omega (
-        arith,
-        one-less-free (postersOf (s .posters)) (c .args .note) (c .args .card) (omega (arith, s .posters .notes, f .2)) (f .3),
-        length-append (itemsOf (s .wire)) (sent (cardsOf (s .cards)) 7 (c .args .note) (s .cards .count)),
-        length-sent (cardsOf (s .cards)) 7 (c .args .note) (s .cards .count),
-        c .announce .ensures .room,
-        s .cards .few,
-        s .room,
-      ),
-      tt,
-    )
+    let p : freeNotes (postersOf (c .post .last .self)) ≡ _ = ap freeNotes (c .in-rest .ensures tt .after) in
+    let one = one-less-free (postersOf (s .posters)) (c .args .note) (c .args .card) (omega (arith, s .posters .notes, f .2)) (f .3) in
+    (omega (arith, one, c .announce .ensures .most, c .announce .ensures .room, s .cards .few, s .room), tt)

@@ -3,12 +3,10 @@ use native.Mathlib.Omega.{arith}
 use Prim.Native.Nat.{_<_}
 use mathlib.Core.List.{[]}
 use lib.ListN.{length, getD}
-use Rattle.std.proofs.shelf.Lists.{length-push}
 use Rattle.notes.specs.Models.{bits}
 use Rattle.parts.proofs.Accepted.{propose-accepted}
 use Rattle.shared.specs.Cards.{cardsOf}
 use Rattle.shared.specs.Tables.{ballotsOf, proposalsView, freeBallots}
-use Rattle.shared.specs.Wires.{itemsOf, item}
 use Rattle.shared.proofs.Free.{one-less-ballot, ballots-length, ballots-row}
 use Rattle.register.proofs.state.consensus.RegisterConsensus.propose.Needs as need
 
@@ -27,14 +25,6 @@ ghost-self-2 c =
     let t = s .proposals in
     let f = propose-accepted (proposalsView (cardsOf (s .cards)) (ballotsOf t)) (c .args .instance) (c .args .card) (bits (c .args .notes)) (sym (c .in-rest .ensures tt .answer)) in
     let r : c .args .card < length (getD (ballotsOf t) (c .args .instance) []) = omega (arith, ballots-row t (c .args .instance) (f .3), s .cards .few, f .0) in
-    let e : length (itemsOf (c .submit .last .wire)) ≡ _ = ap length (c .submit .ensures .items) in
-    let p : freeBallots (ballotsOf (c .propose .last .self)) ≡ _ = ap freeBallots (c .in-rest .ensures tt .after) in (
-      omega (
-        arith,
-        one-less-ballot (ballotsOf t) (c .args .instance) (c .args .card) (bits (c .args .notes)) (omega (arith, ballots-length t, f .3)) r (f .2),
-        length-push (itemsOf (s .wire)) (item (c .args .card) 7 (c .args .instance)),
-        c .submit .ensures .room,
-        s .room,
-      ),
-      tt,
-    )
+    let p : freeBallots (ballotsOf (c .propose .last .self)) ≡ _ = ap freeBallots (c .in-rest .ensures tt .after) in
+    let one = one-less-ballot (ballotsOf t) (c .args .instance) (c .args .card) (bits (c .args .notes)) (omega (arith, ballots-length t, f .3)) r (f .2) in
+    (omega (arith, one, c .submit .ensures .one, c .submit .ensures .room, s .room), tt)

@@ -1,6 +1,6 @@
 use native.Mathlib.Omega.{arith}
 use Rattle.shared.proofs.Wires.{length-senders}
-use Rattle.shared.proofs.wire.Wire.len.Needs as need
+use Rattle.shared.proofs.wire.Wire.counted.Needs as need
 
 pub returns : need.returns
 returns g c =

@@ -1,0 +1,3 @@
+pub mod Completes
+pub mod Keeps
+pub mod Means

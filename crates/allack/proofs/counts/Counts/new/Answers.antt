@@ -1,0 +1,6 @@
+use mathlib.Core.Path.{refl}
+use Rattle.shared.proofs.Lists.{new-row}
+use Rattle.allack.proofs.counts.Counts.new.Needs as need
+
+pub ghost-result : need.ghost-result
+ghost-result c = (refl, ((λ k h. new-row 6 k _ h), tt))

@@ -1,0 +1,14 @@
+use crate::counts::Counts;
+use shared::card_sets::CardSets;
+use spread::state::Spread;
+
+pub mod broadcast;
+pub mod steps;
+
+// The relays, whom each card has counted, and the notes handed to each card.
+#[derive(Drop)]
+pub struct AllAck {
+    spread: Spread,
+    counted: Counts,
+    handed: CardSets,
+}

@@ -1,0 +1,4 @@
+mod Turns
+mod Tables
+mod Layers
+mod Runs

@@ -1,0 +1,4 @@
+pub mod Turns
+pub mod Layers
+pub mod Models
+pub mod Calls

@@ -1,0 +1,4 @@
+pub mod SectionLaws
+pub mod FileLaws
+pub mod SectionTexts
+pub mod FileTexts

@@ -1,0 +1,4 @@
+pub mod Sections
+pub mod Files
+pub mod Written
+pub mod Says

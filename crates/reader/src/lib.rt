@@ -1,0 +1,5 @@
+// Reading whole schedule files.
+pub mod check;
+pub mod read;
+pub mod schedule;
+pub mod section;

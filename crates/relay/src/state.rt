@@ -1,0 +1,9 @@
+use spread::state::Spread;
+
+pub mod broadcast;
+
+// The notes handed to a card are those that it has relayed.
+#[derive(Drop)]
+pub struct Relay {
+    spread: Spread,
+}

@@ -1,0 +1,5 @@
+pub mod Pairs
+pub mod Rooms
+pub mod Works
+pub mod Keeps
+pub mod Nets

@@ -1,0 +1,4 @@
+pub mod Counts
+pub mod Spread
+pub mod Made
+pub mod Seen
