@@ -1,3 +1,4 @@
 pub mod Mails
 pub mod Counted
 pub mod Rooms
+pub mod Lawful

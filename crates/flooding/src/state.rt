@@ -9,6 +9,7 @@ use shared::ballots::Ballots;
 use shared::cards::Cards;
 
 pub mod calls;
+mod laws;
 mod moves;
 
 // The items under way, and those that came before their round and are kept for it.

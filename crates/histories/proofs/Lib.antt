@@ -1,3 +1,4 @@
 pub mod Agrees
 pub mod Puts
 pub mod Kept
+pub mod Heard
