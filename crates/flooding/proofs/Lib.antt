@@ -4,3 +4,4 @@ pub mod Rooms
 pub mod Lawful
 pub mod Keeps
 pub mod Means
+pub mod Works
