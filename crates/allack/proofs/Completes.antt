@@ -14,9 +14,9 @@ use Rattle.std.proofs.shelf.Tests.{both-ways, cases-bool, cases-lt, cond-true, 
 use Rattle.std.proofs.shelf.Ways.{tells}
 use Rattle.notes.specs.Sets.{has, added, minus}
 use Rattle.notes.proofs.Bits.{has-added, has-minus}
-use Rattle.shared.specs.Cards.{suspectsIn}
-use Rattle.shared.specs.Tables.{setIn}
-use Rattle.shared.proofs.Lists.{row-written}
+use Rattle.cards.specs.Cards.{suspectsIn}
+use Rattle.tables.specs.Tables.{setIn}
+use Rattle.cards.proofs.Lists.{row-written}
 use Rattle.allack.specs.AllAck.{AllAckState, common, complete}
 use Rattle.allack.specs.Counts.{countedIn, withCount}
 

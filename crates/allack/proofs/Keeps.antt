@@ -15,12 +15,12 @@ use Rattle.std.specs.declared.option.Option.the-variants.{Some, None}
 use Rattle.std.proofs.shelf.Tests.{both-ways, cases-bool, cases-eq, or-cases, or-left, or-right, or-parts, and-parts, and-from, and-left, eq-eqb, ne-eqb, eqb-true}
 use Rattle.notes.specs.Sets.{has, added}
 use Rattle.notes.proofs.Bits.{has-none}
-use Rattle.shared.specs.Cards.{CardState, crashedIn, suspectsIn, SoundCards}
-use Rattle.shared.specs.Tables.{setIn}
-use Rattle.shared.specs.declared.wire.Item.{Item}
-use Rattle.shared.proofs.Changes.{posted-below, noted-all, noted-all-others-stay, noted-all-fits}
-use Rattle.shared.proofs.Lists.{same-all, same-rows, new-row, rows-kept}
-use Rattle.shared.proofs.Nets.{crash-more, suspect-more}
+use Rattle.cards.specs.Cards.{CardState, crashedIn, suspectsIn, SoundCards}
+use Rattle.tables.specs.Tables.{setIn}
+use Rattle.wire.specs.declared.Item.{Item}
+use Rattle.tables.proofs.Changes.{posted-below, noted-all, noted-all-others-stay, noted-all-fits}
+use Rattle.cards.proofs.Lists.{same-all, same-rows, new-row, rows-kept}
+use Rattle.cards.proofs.Nets.{crash-more, suspect-more}
 use Rattle.spread.specs.Spread as spread
 use Rattle.spread.specs.Spread.{SpreadState}
 use Rattle.spread.specs.Made.{SoundSpread, MadeSpread}

@@ -9,9 +9,9 @@ use Rattle.std.specs.declared.option.Option.the-variants.{Some, None}
 use Rattle.notes.specs.Sets.{minus}
 use Rattle.parts.specs.Views.{BroadcastView}
 use Rattle.parts.specs.Broadcasting.{broadcastView}
-use Rattle.shared.specs.Cards.{suspectsIn}
-use Rattle.shared.specs.Tables.{cardSetsOf, setIn, withNotes}
-use Rattle.shared.specs.declared.wire.Item.{Item}
+use Rattle.cards.specs.Cards.{suspectsIn}
+use Rattle.tables.specs.Tables.{cardSetsOf, setIn, withNotes}
+use Rattle.wire.specs.declared.Item.{Item}
 use Rattle.spread.specs.Seen.{spreadCards, spreadCrashed, spreadSuspects, spreadWire, spreadPoster}
 use Rattle.spread.specs.Spread as spread
 use Rattle.spread.specs.Spread.{SpreadState, spreadOf, spreadWork}

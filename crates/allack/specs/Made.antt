@@ -5,9 +5,9 @@ use mathlib.Core.List.{[]}
 use Prim.Native.Nat.{ℕ, _^_, _≤_, _<_}
 use lib.ListN.{length, getD}
 use Rattle.notes.specs.Sets.{has}
-use Rattle.shared.specs.Cards.{crashedIn, suspectsIn}
-use Rattle.shared.specs.Tables.{setIn}
-use Rattle.shared.specs.Wires.{anyOf}
+use Rattle.cards.specs.Cards.{crashedIn, suspectsIn}
+use Rattle.tables.specs.Tables.{setIn}
+use Rattle.wire.specs.Wires.{anyOf}
 use Rattle.spread.specs.Made.{brings, MadeSpread}
 use Rattle.allack.specs.Counts.{countedIn}
 use Rattle.allack.specs.AllAck.{AllAckState}

@@ -20,11 +20,11 @@ use Rattle.std.proofs.shelf.Tests.{cases-eq, cases-lt, cond-both, and-from, ne-
 use Rattle.std.proofs.shelf.Ways.{tells}
 use Rattle.notes.specs.Sets.{has, added}
 use Rattle.notes.proofs.Bits.{has-added}
-use Rattle.shared.specs.Cards.{CardState, crashedIn}
-use Rattle.shared.specs.Tables.{posterIn, setIn, withNote}
-use Rattle.shared.specs.Wires.{goesTo, senders}
-use Rattle.shared.specs.declared.wire.Item.{Item}
-use Rattle.shared.proofs.Lists.{written}
+use Rattle.cards.specs.Cards.{CardState, crashedIn}
+use Rattle.tables.specs.Tables.{posterIn, setIn, withNote}
+use Rattle.wire.specs.Wires.{goesTo, senders}
+use Rattle.wire.specs.declared.Item.{Item}
+use Rattle.cards.proofs.Lists.{written}
 
 -- Who has posted, after one post more.
 pub posted-more : (t : List (Option ℕ)) (m p k : ℕ) → m < length t → isSome (posterIn (set t m (Some p)) k) ≡ (eqb k m || isSome (posterIn t k))

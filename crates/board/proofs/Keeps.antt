@@ -20,14 +20,14 @@ use Rattle.notes.specs.Sets.{has}
 use Rattle.notes.proofs.Bits.{has-none}
 use Rattle.parts.specs.Refusals.{postAnswer, carryAnswer, loseAnswer, crashAnswer, suspectAnswer}
 use Rattle.parts.proofs.Accepted.{post-accepted, lose-accepted, crash-accepted, suspect-accepted}
-use Rattle.shared.specs.Cards.{crashedIn, withCrash}
-use Rattle.shared.specs.Tables.{posterIn, setIn, withNote}
-use Rattle.shared.specs.Wires.{item, sent, elsewhere, anyOf}
-use Rattle.shared.specs.declared.wire.Item.{Item}
-use Rattle.shared.proofs.Items.{all-removed, all-nth, all-left, all-sent-are, any-append, any-split, any-left, any-sent}
-use Rattle.shared.proofs.Lists.{written, same-all}
-use Rattle.shared.proofs.Nets.{new-sound, crash-sound, crash-more, suspect-sound}
-use Rattle.shared.proofs.Taken.{carried-item}
+use Rattle.cards.specs.Cards.{crashedIn, withCrash}
+use Rattle.tables.specs.Tables.{posterIn, setIn, withNote}
+use Rattle.wire.specs.Wires.{item, sent, elsewhere, anyOf}
+use Rattle.wire.specs.declared.Item.{Item}
+use Rattle.wire.proofs.Items.{all-removed, all-nth, all-left, all-sent-are, any-append, any-split, any-left, any-sent}
+use Rattle.cards.proofs.Lists.{written, same-all}
+use Rattle.cards.proofs.Nets.{new-sound, crash-sound, crash-more, suspect-sound}
+use Rattle.wire.proofs.Taken.{carried-item}
 use Rattle.board.specs.Board.{BoardState, seen, newBoard, postOn, carryOn, crashOn, suspectOn}
 use Rattle.board.specs.Made.{Underway, brings, MadeBoard}
 use Rattle.board.proofs.Changes.{posted-more, posted-below, goes-to-running, handed-more, handed-others-stay, handed-fits, carrier-sends}

@@ -21,15 +21,15 @@ use Rattle.parts.specs.Views.{BroadcastView, Runs, Quiet}
 use Rattle.parts.specs.Refusals.{postAnswer, carryAnswer, loseAnswer, crashAnswer, suspectAnswer}
 use Rattle.parts.specs.Broadcasting.{Started, HandedMore, Posted, Carried, Lost, Crashed, Suspected, Lawful, UniformAgreement}
 use Rattle.parts.proofs.Accepted.{post-accepted, crash-accepted, suspect-accepted}
-use Rattle.shared.specs.Cards.{crashedIn, AllSuspected}
-use Rattle.shared.specs.Tables.{posterIn, setIn, withNote}
-use Rattle.shared.specs.Wires.{senders, sent, elsewhere, anyOf}
-use Rattle.shared.specs.declared.wire.Item.{Item}
-use Rattle.shared.proofs.Items.{all-nth, part-left, length-left}
-use Rattle.shared.proofs.Lists.{written, same-all}
-use Rattle.shared.proofs.Nets.{new-net, same-cards, net-crashed, net-suspected, lawful-net, quiet-when, suspected-when}
-use Rattle.shared.proofs.Wires.{length-sent, length-senders}
-use Rattle.shared.proofs.Taken.{carried-item}
+use Rattle.cards.specs.Cards.{crashedIn, AllSuspected}
+use Rattle.tables.specs.Tables.{posterIn, setIn, withNote}
+use Rattle.wire.specs.Wires.{senders, sent, elsewhere, anyOf}
+use Rattle.wire.specs.declared.Item.{Item}
+use Rattle.wire.proofs.Items.{all-nth, part-left, length-left}
+use Rattle.cards.proofs.Lists.{written, same-all}
+use Rattle.cards.proofs.Nets.{new-net, same-cards, net-crashed, net-suspected, lawful-net, quiet-when, suspected-when}
+use Rattle.wire.proofs.Wires.{length-sent, length-senders}
+use Rattle.wire.proofs.Taken.{carried-item}
 use Rattle.board.specs.Board.{BoardState, seen, newBoard, postOn, carryOn, loseOn, crashOn, suspectOn}
 use Rattle.board.specs.Made.{Underway, brings, MadeBoard}
 use Rattle.board.proofs.Changes.{posted-below, handed-more, handed-others-stay}

@@ -9,10 +9,10 @@ use Rattle.std.specs.declared.option.Option.{Option}
 use Rattle.std.specs.declared.option.Option.the-variants.{Some, None}
 use Rattle.parts.specs.Views.{BroadcastView}
 use Rattle.parts.specs.Broadcasting.{broadcastView}
-use Rattle.shared.specs.Cards.{CardState, cardsOf, crashedIn, suspectsIn, newCards, withCrash, withSuspicion}
-use Rattle.shared.specs.Tables.{postersOf, posterIn, cardSetsOf, setIn, withNote}
-use Rattle.shared.specs.Wires.{itemsOf, senders, sent, withoutTo}
-use Rattle.shared.specs.declared.wire.Item.{Item}
+use Rattle.cards.specs.Cards.{CardState, cardsOf, crashedIn, suspectsIn, newCards, withCrash, withSuspicion}
+use Rattle.tables.specs.Tables.{postersOf, posterIn, cardSetsOf, setIn, withNote}
+use Rattle.wire.specs.Wires.{itemsOf, senders, sent, withoutTo}
+use Rattle.wire.specs.declared.Item.{Item}
 use Rattle.board.specs.declared.state.Board.{Board}
 
 -- An item's load is the note that it hands over.

@@ -10,10 +10,10 @@ use Rattle.std.specs.shelf.Lists.{All}
 use Rattle.std.specs.declared.option.Option.{Option}
 use Rattle.std.specs.declared.option.Option.the-variants.{Some}
 use Rattle.notes.specs.Sets.{has}
-use Rattle.shared.specs.Cards.{CardState, crashedIn, SoundCards}
-use Rattle.shared.specs.Tables.{posterIn, setIn}
-use Rattle.shared.specs.Wires.{anyOf}
-use Rattle.shared.specs.declared.wire.Item.{Item}
+use Rattle.cards.specs.Cards.{CardState, crashedIn, SoundCards}
+use Rattle.tables.specs.Tables.{posterIn, setIn}
+use Rattle.wire.specs.Wires.{anyOf}
+use Rattle.wire.specs.declared.Item.{Item}
 use Rattle.board.specs.Board.{BoardState}
 
 -- An item under way: from the carrier, to a running card, with a posted note.

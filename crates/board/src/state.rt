@@ -1,11 +1,11 @@
 ghost use Prim.Native.Nat.{_+_, _*_, _≤_};
 ghost use lib.ListN.{length};
-ghost use Rattle.shared.specs.Tables.{postersOf, freeNotes};
-ghost use Rattle.shared.specs.Wires.{itemsOf, roomOf};
-use shared::card_sets::CardSets;
-use shared::cards::Cards;
-use shared::posters::Posters;
-use shared::wire::Wire;
+ghost use Rattle.tables.specs.Tables.{postersOf, freeNotes};
+ghost use Rattle.wire.specs.Wires.{itemsOf, roomOf};
+use cards::Cards;
+use tables::card_sets::CardSets;
+use tables::posters::Posters;
+use wire::Wire;
 
 pub mod broadcast;
 pub mod steps;

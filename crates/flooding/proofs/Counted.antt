@@ -6,7 +6,7 @@ use Prim.Native.Nat.{ℕ, zero, suc, _+_, _<_}
 use native.Mathlib.Numerals.{add-one}
 use native.Mathlib.Omega.{arith}
 use Rattle.std.proofs.shelf.Tests.{cases-lt, and-parts, and-from, and-left, and-right}
-use Rattle.shared.specs.Cards.{CardState}
+use Rattle.cards.specs.Cards.{CardState}
 use Rattle.flooding.specs.Seats.{SeatState, accountedFor, allCounted}
 
 module _ (c : CardState) (q : ℕ) (s : SeatState) where

@@ -18,12 +18,12 @@ use Rattle.notes.proofs.Bits.{same-sets}
 use Rattle.parts.specs.Views.{Runs, Quiet}
 use Rattle.parts.specs.Deciding.{Lawful}
 use Rattle.parts.proofs.Options.{some-held}
-use Rattle.shared.specs.Cards.{crashedIn, suspectsIn}
-use Rattle.shared.specs.Tables.{ballotIn}
-use Rattle.shared.specs.Wires.{senders, anyOf}
-use Rattle.shared.proofs.Changes.{nothing-left}
-use Rattle.shared.proofs.Nets.{lawful-net}
-use Rattle.shared.proofs.Wires.{length-senders}
+use Rattle.cards.specs.Cards.{crashedIn, suspectsIn}
+use Rattle.tables.specs.Tables.{ballotIn}
+use Rattle.wire.specs.Wires.{senders, anyOf}
+use Rattle.tables.proofs.Changes.{nothing-left}
+use Rattle.cards.proofs.Nets.{lawful-net}
+use Rattle.wire.proofs.Wires.{length-senders}
 use Rattle.histories.specs.Histories.{Left}
 use Rattle.histories.specs.Moves.{heardOf}
 use Rattle.histories.proofs.Agrees.{agreement}

@@ -17,11 +17,11 @@ use Rattle.std.specs.declared.option.Option.the-variants.{Some, None}
 use Rattle.std.proofs.shelf.Lists.{map-append, take-map, drop-map}
 use Rattle.std.proofs.shelf.Edits.{length-removed}
 use Rattle.std.proofs.shelf.Tests.{cases-bool, cond-true, cond-false, ltb-true, ltb-false}
-use Rattle.shared.proofs.Wires.{removed-past}
+use Rattle.wire.proofs.Wires.{removed-past}
 use Rattle.notes.specs.Sets.{added}
-use Rattle.shared.specs.Cards.{CardState, suspectsIn}
-use Rattle.shared.specs.Wires.{item, senders, goesTo, sent, elsewhere, withoutTo}
-use Rattle.shared.specs.declared.wire.Item.{Item}
+use Rattle.cards.specs.Cards.{CardState, suspectsIn}
+use Rattle.wire.specs.Wires.{item, senders, goesTo, sent, elsewhere, withoutTo}
+use Rattle.wire.specs.declared.Item.{Item}
 use Rattle.flooding.specs.Mail.{LoadState, loadOf, itemState, isFor, takingOne, takingAt, takingIn}
 use Rattle.flooding.specs.Seats.{SeatState, hearing}
 use Rattle.flooding.specs.declared.mail.Load.{Load}

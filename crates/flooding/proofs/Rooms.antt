@@ -12,10 +12,10 @@ use Rattle.std.specs.declared.option.Option.{Option}
 use Rattle.std.specs.declared.option.Option.the-variants.{Some}
 use Rattle.parts.specs.Refusals.{proposeAnswer}
 use Rattle.parts.proofs.Accepted.{propose-accepted}
-use Rattle.shared.specs.Cards.{CardState}
-use Rattle.shared.specs.Tables.{ballotsOf, newBallots, withBallot, proposalsView, freeBallots}
-use Rattle.shared.specs.declared.ballots.Ballots.{Ballots}
-use Rattle.shared.proofs.Free.{one-less-ballot, ballots-length, ballots-row}
+use Rattle.cards.specs.Cards.{CardState}
+use Rattle.tables.specs.Tables.{ballotsOf, newBallots, withBallot, proposalsView, freeBallots}
+use Rattle.tables.specs.declared.ballots.Ballots.{Ballots}
+use Rattle.tables.proofs.Free.{one-less-ballot, ballots-length, ballots-row}
 use Rattle.flooding.specs.Seats.{SeatState, noSeat, newSeats, seatIn, withSeat}
 use Rattle.flooding.specs.Room.{roundsAfter, rowRounds, roundsLeft}
 

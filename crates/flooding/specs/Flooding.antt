@@ -12,10 +12,10 @@ use Rattle.std.specs.declared.option.Option.the-variants.{Some, None}
 use Rattle.notes.specs.Sets.{added, low}
 use Rattle.parts.specs.Views.{ConsensusView}
 use Rattle.parts.specs.Deciding.{consensusView}
-use Rattle.shared.specs.Cards.{CardState, cardsOf, crashedIn, suspectsIn, newCards, withCrash, withSuspicion}
-use Rattle.shared.specs.Tables.{ballotsOf, newBallots, ballotIn, withBallot}
-use Rattle.shared.specs.Wires.{senders, sent, withoutTo}
-use Rattle.shared.specs.declared.wire.Item.{Item}
+use Rattle.cards.specs.Cards.{CardState, cardsOf, crashedIn, suspectsIn, newCards, withCrash, withSuspicion}
+use Rattle.tables.specs.Tables.{ballotsOf, newBallots, ballotIn, withBallot}
+use Rattle.wire.specs.Wires.{senders, sent, withoutTo}
+use Rattle.wire.specs.declared.Item.{Item}
 use Rattle.flooding.specs.Seats.{SeatState, seatsOf, newSeats, seatIn, withSeat, entering, hearing, ready}
 use Rattle.flooding.specs.Mail.{LoadState, mailOf, takingIn}
 use Rattle.flooding.specs.declared.state.Flooding.{Flooding}

@@ -11,10 +11,10 @@ use Rattle.std.specs.shelf.Lists.{All}
 use Rattle.std.specs.declared.option.Option.{Option}
 use Rattle.std.specs.declared.option.Option.the-variants.{Some}
 use Rattle.notes.specs.Sets.{has, low}
-use Rattle.shared.specs.Cards.{CardState, crashedIn, suspectsIn, SoundCards}
-use Rattle.shared.specs.Tables.{ballotIn}
-use Rattle.shared.specs.Wires.{anyOf}
-use Rattle.shared.specs.declared.wire.Item.{Item}
+use Rattle.cards.specs.Cards.{CardState, crashedIn, suspectsIn, SoundCards}
+use Rattle.tables.specs.Tables.{ballotIn}
+use Rattle.wire.specs.Wires.{anyOf}
+use Rattle.wire.specs.declared.Item.{Item}
 use Rattle.histories.specs.Histories.{Past, Fates, History}
 use Rattle.histories.specs.Moves.{heardOf}
 use Rattle.flooding.specs.Seats.{SeatState, seatIn}

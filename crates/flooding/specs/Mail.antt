@@ -6,9 +6,9 @@ use lib.Dec.{eqb}
 use Rattle.std.specs.declared.option.Option.{Option}
 use Rattle.std.specs.declared.option.Option.the-variants.{Some, None}
 use Rattle.notes.specs.Models.{bits}
-use Rattle.shared.specs.Cards.{CardState}
-use Rattle.shared.specs.Wires.{itemsOf, roomOf}
-use Rattle.shared.specs.declared.wire.Item.{Item}
+use Rattle.cards.specs.Cards.{CardState}
+use Rattle.wire.specs.Wires.{itemsOf, roomOf}
+use Rattle.wire.specs.declared.Item.{Item}
 use Rattle.flooding.specs.Seats.{SeatState, hearing}
 use Rattle.flooding.specs.declared.mail.Load.{Load}
 use Rattle.flooding.specs.declared.mail.Mail.{Mail}

@@ -5,8 +5,8 @@ use Prim.Native.Nat.{ℕ, _+_, _-_, _*_}
 use lib.Dec.{eqb}
 use lib.ListN.{length}
 use Rattle.std.specs.declared.option.Option.{Option}
-use Rattle.shared.specs.Tables.{freeBallots}
-use Rattle.shared.specs.declared.wire.Item.{Item}
+use Rattle.tables.specs.Tables.{freeBallots}
+use Rattle.wire.specs.declared.Item.{Item}
 use Rattle.flooding.specs.Seats.{SeatState}
 use Rattle.flooding.specs.Mail.{LoadState}
 

@@ -7,7 +7,7 @@ use lib.Dec.{ltb}
 use lib.ListN.{getD, set, replicate}
 use Rattle.notes.specs.Models.{bits}
 use Rattle.notes.specs.Sets.{has, added}
-use Rattle.shared.specs.Cards.{CardState, suspectsIn}
+use Rattle.cards.specs.Cards.{CardState, suspectsIn}
 use Rattle.flooding.specs.declared.seats.Seat.{Seat}
 use Rattle.flooding.specs.declared.seats.Seats.{Seats}
 

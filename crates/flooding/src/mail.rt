@@ -1,5 +1,5 @@
 use notes::set::NoteSet;
-use shared::wire::Wire;
+use wire::Wire;
 
 pub mod methods;
 

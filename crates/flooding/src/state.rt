@@ -1,12 +1,12 @@
 ghost use Prim.Native.Nat.{_≤_};
-ghost use Rattle.shared.specs.Tables.{ballotsOf};
+ghost use Rattle.tables.specs.Tables.{ballotsOf};
 ghost use Rattle.flooding.specs.Mail.{mailOf, mailRoom};
 ghost use Rattle.flooding.specs.Room.{demand};
 ghost use Rattle.flooding.specs.Seats.{seatsOf};
 use crate::mail::Mail;
 use crate::seats::Seats;
-use shared::ballots::Ballots;
-use shared::cards::Cards;
+use cards::Cards;
+use tables::ballots::Ballots;
 
 pub mod calls;
 mod laws;

@@ -8,7 +8,7 @@ use Rattle.std.specs.declared.result.Result.{Result}
 use Rattle.std.specs.declared.result.Result.the-variants.{Ok, Err}
 use Rattle.text.specs.Parts.{Span}
 use Rattle.schedule.specs.declared.contents.Contents.{Contents}
-use Rattle.schedule.specs.declared.fault.FileFault.{FileFault}
+use Rattle.faults.specs.declared.FileFault.{FileFault}
 use Rattle.reader.specs.Files.{Whole, contentsIn}
 
 pub contents-ok : (s : Result Whole FileFault) (c : Contents) → Ok c ≡ contentsIn s → isOk s ≡ true

@@ -20,17 +20,18 @@ use Rattle.text.specs.Parts.{Span, wholeOf, placeOf, faultAt}
 use Rattle.schedule.specs.declared.contents.NoteKind.{NoteKind}
 use Rattle.schedule.specs.declared.contents.NoteKind.the-variants as kinds
 use Rattle.schedule.specs.declared.contents.Contents.{Contents}
-use Rattle.schedule.specs.declared.event.Event.{Event}
-use Rattle.schedule.specs.declared.fault.FileFault.{FileFault}
-use Rattle.schedule.specs.declared.fault.FileFault.the-variants.{Long, Surplus, Contents as InContents}
-use Rattle.schedule.specs.Chains.{andThen, mapErr}
-use Rattle.schedule.specs.Lines.{linesOf}
-use Rattle.schedule.specs.Notes.{wearOf, labelAt}
-use Rattle.schedule.specs.Events.{eventOf}
+use Rattle.entries.specs.declared.event.Event.{Event}
+use Rattle.faults.specs.declared.FileFault.{FileFault}
+use Rattle.faults.specs.declared.FileFault.the-variants.{Long, Surplus, Contents as InContents}
+use Rattle.entries.specs.Chains.{andThen, mapErr}
+use Rattle.entries.specs.Lines.{linesOf}
+use Rattle.entries.specs.Notes.{wearOf, labelAt}
+use Rattle.entries.specs.Events.{eventOf}
 use Rattle.schedule.specs.Contents.{contentsOf}
-use Rattle.schedule.specs.Written.{anywhere, wearText, WearAllowed, labelPut, labelText, LabelAllowed, eventText, EventAllowed, contentsLines, ContentsAllowed, contentsText, writtenLines, lineItself}
-use Rattle.schedule.proofs.NoteLaws.{wear-reads, label-reads}
-use Rattle.schedule.proofs.EventLaws.{event-reads}
+use Rattle.entries.specs.Written.{anywhere, wearText, WearAllowed, labelPut, labelText, LabelAllowed, eventText, EventAllowed, writtenLines, lineItself}
+use Rattle.schedule.specs.Written.{contentsLines, ContentsAllowed, contentsText}
+use Rattle.entries.proofs.NoteLaws.{wear-reads, label-reads}
+use Rattle.entries.proofs.EventLaws.{event-reads}
 use Rattle.schedule.proofs.ContentsWhole.{contents-say, contents-read-back}
 use Rattle.reader.specs.declared.schedule.Schedule.{Schedule}
 use Rattle.reader.specs.declared.schedule.Unread.{Unread}

@@ -8,8 +8,8 @@ use Rattle.std.specs.declared.result.Result.{Result}
 use Rattle.std.specs.declared.result.Result.the-variants.{Ok, Err}
 use Rattle.text.specs.Parts.{Span}
 use Rattle.text.specs.declared.fault.LineFault.{LineFault}
-use Rattle.schedule.specs.Chains.{andThen}
-use Rattle.schedule.specs.Lines.{lineBy, linesAfter}
+use Rattle.entries.specs.Chains.{andThen}
+use Rattle.entries.specs.Lines.{lineBy, linesAfter}
 use Rattle.reader.specs.Sections.{endOf}
 
 module _ {A : Type 0} (rule : Span → Option A) where

@@ -11,10 +11,10 @@ use Rattle.std.specs.declared.result.Result.{Result}
 use Rattle.std.specs.declared.result.Result.the-variants.{Ok, Err}
 use Rattle.text.specs.declared.fault.LineFault.{LineFault}
 use Rattle.text.specs.Parts.{Span, placeOf, faultAt}
-use Rattle.schedule.specs.Chains.{andThen}
-use Rattle.schedule.specs.Lines.{lineBy, linesAfter, linesOf}
-use Rattle.schedule.specs.Written.{ReadsWritten, anywhere, writtenLines}
-use Rattle.schedule.proofs.RuleLaws.{then-ok, then-err, one-only, one-back, one-fault, one-due}
+use Rattle.entries.specs.Chains.{andThen}
+use Rattle.entries.specs.Lines.{lineBy, linesAfter, linesOf}
+use Rattle.entries.specs.Written.{ReadsWritten, anywhere, writtenLines}
+use Rattle.entries.proofs.RuleLaws.{then-ok, then-err, one-only, one-back, one-fault, one-due}
 use Rattle.reader.specs.Sections.{endOf}
 use Rattle.reader.specs.Written.{putLines}
 use Rattle.reader.specs.Says.{LinesStand, LinesStop, SectionSays}

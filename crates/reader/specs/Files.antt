@@ -16,13 +16,13 @@ use Rattle.text.specs.Parts.{Span, partOf, wholeOf, placeOf}
 use Rattle.text.specs.declared.fault.LineFault.{LineFault}
 use Rattle.text.specs.declared.part.Part.{Part}
 use Rattle.schedule.specs.declared.contents.Contents.{Contents}
-use Rattle.schedule.specs.declared.event.Event.{Event}
-use Rattle.schedule.specs.declared.fault.BodyFault.the-variants.{Notes, Events}
-use Rattle.schedule.specs.declared.fault.FileFault.{FileFault}
-use Rattle.schedule.specs.declared.fault.FileFault.the-variants.{Long, Body, Surplus, Contents as InContents}
-use Rattle.schedule.specs.Chains.{andThen, mapErr}
-use Rattle.schedule.specs.Lines.{linesOf}
-use Rattle.schedule.specs.Events.{eventOf}
+use Rattle.entries.specs.declared.event.Event.{Event}
+use Rattle.faults.specs.declared.BodyFault.the-variants.{Notes, Events}
+use Rattle.faults.specs.declared.FileFault.{FileFault}
+use Rattle.faults.specs.declared.FileFault.the-variants.{Long, Body, Surplus, Contents as InContents}
+use Rattle.entries.specs.Chains.{andThen, mapErr}
+use Rattle.entries.specs.Lines.{linesOf}
+use Rattle.entries.specs.Events.{eventOf}
 use Rattle.schedule.specs.Contents.{contentsOf}
 use Rattle.reader.specs.declared.schedule.Notes.{Notes as NotesRead}
 use Rattle.reader.specs.declared.schedule.Notes.the-variants.{Wears, Labels}

@@ -10,11 +10,12 @@ use Rattle.text.specs.declared.fault.LineFault.{LineFault}
 use Rattle.text.specs.Faults.{faultPlace}
 use Rattle.text.specs.Parts.{Span, faultAt}
 use Rattle.schedule.specs.declared.contents.Contents.{Contents}
-use Rattle.schedule.specs.declared.event.Event.{Event}
-use Rattle.schedule.specs.declared.fault.BodyFault.the-variants.{Notes, Events}
-use Rattle.schedule.specs.declared.fault.FileFault.{FileFault}
-use Rattle.schedule.specs.declared.fault.FileFault.the-variants.{Long, Body, Surplus, Contents as InContents}
-use Rattle.schedule.specs.Written.{eventText, EventAllowed, contentsLines, ContentsAllowed, contentsText, writtenLines, lineItself}
+use Rattle.entries.specs.declared.event.Event.{Event}
+use Rattle.faults.specs.declared.BodyFault.the-variants.{Notes, Events}
+use Rattle.faults.specs.declared.FileFault.{FileFault}
+use Rattle.faults.specs.declared.FileFault.the-variants.{Long, Body, Surplus, Contents as InContents}
+use Rattle.entries.specs.Written.{eventText, EventAllowed, writtenLines, lineItself}
+use Rattle.schedule.specs.Written.{contentsLines, ContentsAllowed, contentsText}
 use Rattle.reader.specs.declared.schedule.Schedule.{Schedule}
 use Rattle.reader.specs.declared.schedule.Unread.{Unread}
 use Rattle.reader.specs.declared.schedule.Unread.the-variants.{Fault, NoMemory}

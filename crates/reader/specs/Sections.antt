@@ -12,8 +12,8 @@ use Rattle.text.specs.declared.fault.LineFault.{LineFault}
 use Rattle.notes.specs.declared.wear.Wear.{Wear}
 use Rattle.schedule.specs.declared.contents.NoteKind.{NoteKind}
 use Rattle.schedule.specs.declared.contents.NoteKind.the-variants as kinds
-use Rattle.schedule.specs.Lines.{linesOf}
-use Rattle.schedule.specs.Notes.{wearOf, labelAt}
+use Rattle.entries.specs.Lines.{linesOf}
+use Rattle.entries.specs.Notes.{wearOf, labelAt}
 
 -- where a section ends
 abbrev pub endOf : {A E : Type 0} → Result (A × Span) E → Result Span E

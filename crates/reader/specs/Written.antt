@@ -8,8 +8,9 @@ use Rattle.notes.specs.declared.wear.Wear.{Wear}
 use Rattle.schedule.specs.declared.contents.NoteKind.{NoteKind}
 use Rattle.schedule.specs.declared.contents.NoteKind.the-variants as kinds
 use Rattle.schedule.specs.declared.contents.Contents.{Contents}
-use Rattle.schedule.specs.declared.event.Event.{Event}
-use Rattle.schedule.specs.Written.{wearText, WearAllowed, labelPut, labelText, LabelAllowed, eventText, EventAllowed, ContentsAllowed, contentsText, writtenLines}
+use Rattle.entries.specs.declared.event.Event.{Event}
+use Rattle.entries.specs.Written.{wearText, WearAllowed, labelPut, labelText, LabelAllowed, eventText, EventAllowed, writtenLines}
+use Rattle.schedule.specs.Written.{ContentsAllowed, contentsText}
 use Rattle.reader.specs.Sections.{Noted, wears, labels}
 use Rattle.reader.specs.Files.{Whole}
 

@@ -1,6 +1,6 @@
 // Reading a file into memory.
-ghost use Rattle.schedule.specs.Lines.{linesOf};
-ghost use Rattle.schedule.specs.Events.{eventOf};
+ghost use Rattle.entries.specs.Lines.{linesOf};
+ghost use Rattle.entries.specs.Events.{eventOf};
 ghost use Rattle.text.specs.Parts.{partOf};
 ghost use Rattle.reader.specs.Sections.{notesOf};
 ghost use Rattle.reader.specs.Files.{scheduleOf, Holds, NotesHold, EventsHold, Refuses, Answers};
@@ -10,17 +10,17 @@ use crate::schedule::Notes;
 use crate::schedule::Schedule;
 use crate::schedule::Unread;
 use crate::section::read_lines;
+use entries::event::Event;
+use entries::event_line::EventLine;
+use entries::note_line::LabelLine;
+use entries::note_line::WearLine;
+use faults::BodyFault;
+use faults::FileFault;
+use faults::LONGEST;
 use labels::Label;
 use notes::wear::Wear;
 use schedule::contents::Contents;
 use schedule::contents::NoteKind;
-use schedule::event::Event;
-use schedule::fault::BodyFault;
-use schedule::fault::FileFault;
-use schedule::fault::LONGEST;
-use schedule::reader::event::EventLine;
-use schedule::reader::note::LabelLine;
-use schedule::reader::note::WearLine;
 use std::alloc::Global;
 use text::part::Part;
 

@@ -14,8 +14,8 @@ use Rattle.std.specs.declared.option.Option.{Option}
 use Rattle.std.specs.declared.option.Option.the-variants.{Some, None}
 use Rattle.std.proofs.shelf.Lists.{getD-past}
 use Rattle.std.proofs.shelf.Tests.{cases-bool, cases-lt, cond-true, cond-false, cond-both, and-parts, eqb-true}
-use Rattle.shared.specs.Tables.{ballotIn, withBallot}
-use Rattle.shared.proofs.Lists.{written, row-written, rows-kept}
+use Rattle.tables.specs.Tables.{ballotIn, withBallot}
+use Rattle.cards.proofs.Lists.{written, row-written, rows-kept}
 use Rattle.register.specs.Held.{heldIn, filled}
 use Rattle.register.specs.Made.{Shaped}
 

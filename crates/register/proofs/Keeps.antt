@@ -19,14 +19,14 @@ use Rattle.std.proofs.shelf.Tests.{or-cases, or-left, or-right, or-parts, and-p
 use Rattle.parts.specs.Refusals.{proposeAnswer, carryAnswer, loseAnswer, crashAnswer, suspectAnswer}
 use Rattle.parts.proofs.Accepted.{propose-accepted, crash-accepted, suspect-accepted}
 use Rattle.parts.proofs.Options.{some-held}
-use Rattle.shared.specs.Cards.{CardState, crashedIn, withCrash, withSuspicion}
-use Rattle.shared.specs.Tables.{newBallots, ballotIn, withBallot}
-use Rattle.shared.specs.Wires.{item, anyOf}
-use Rattle.shared.specs.declared.wire.Item.{Item}
-use Rattle.shared.proofs.Items.{all-removed, all-nth, any-append, any-split}
-use Rattle.shared.proofs.Lists.{same-all, same-rows, new-row}
-use Rattle.shared.proofs.Nets.{new-sound, crash-sound, crash-more, suspect-sound}
-use Rattle.shared.proofs.Taken.{carried-item, lost-item}
+use Rattle.cards.specs.Cards.{CardState, crashedIn, withCrash, withSuspicion}
+use Rattle.tables.specs.Tables.{newBallots, ballotIn, withBallot}
+use Rattle.wire.specs.Wires.{item, anyOf}
+use Rattle.wire.specs.declared.Item.{Item}
+use Rattle.wire.proofs.Items.{all-removed, all-nth, any-append, any-split}
+use Rattle.cards.proofs.Lists.{same-all, same-rows, new-row}
+use Rattle.cards.proofs.Nets.{new-sound, crash-sound, crash-more, suspect-sound}
+use Rattle.wire.proofs.Taken.{carried-item, lost-item}
 use Rattle.register.specs.Held.{heldIn}
 use Rattle.register.specs.Register.{RegisterState, seen, newRegister, proposeOn, carryOn, fillBy, decideBy, loseOn, crashOn, suspectOn}
 use Rattle.register.specs.Made.{Underway, brings, Shaped, MadeRegister}

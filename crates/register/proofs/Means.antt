@@ -19,15 +19,15 @@ use Rattle.parts.specs.Views.{ConsensusView}
 use Rattle.parts.specs.Refusals.{proposeAnswer, carryAnswer, loseAnswer, crashAnswer, suspectAnswer}
 use Rattle.parts.specs.Deciding.{Started, DecidedMore, Proposed, Carried, Lost, Crashed, Suspected, Lawful}
 use Rattle.parts.proofs.Accepted.{crash-accepted, suspect-accepted}
-use Rattle.shared.specs.Cards.{crashedIn}
-use Rattle.shared.specs.Tables.{ballotIn}
-use Rattle.shared.specs.Wires.{senders, item, anyOf}
-use Rattle.shared.specs.declared.wire.Item.{Item}
-use Rattle.shared.proofs.Items.{all-nth, part-all}
-use Rattle.shared.proofs.Lists.{same-rows}
-use Rattle.shared.proofs.Nets.{new-net, same-cards, net-crashed, net-suspected, lawful-net}
-use Rattle.shared.proofs.Taken.{carried-item, lost-item, net-lost}
-use Rattle.shared.proofs.Wires.{length-senders}
+use Rattle.cards.specs.Cards.{crashedIn}
+use Rattle.tables.specs.Tables.{ballotIn}
+use Rattle.wire.specs.Wires.{senders, item, anyOf}
+use Rattle.wire.specs.declared.Item.{Item}
+use Rattle.wire.proofs.Items.{all-nth, part-all}
+use Rattle.cards.proofs.Lists.{same-rows}
+use Rattle.cards.proofs.Nets.{new-net, same-cards, net-crashed, net-suspected, lawful-net}
+use Rattle.wire.proofs.Taken.{carried-item, lost-item, net-lost}
+use Rattle.wire.proofs.Wires.{length-senders}
 use Rattle.register.specs.Held.{heldIn}
 use Rattle.register.specs.Register.{RegisterState, seen, newRegister, proposeOn, carryOn, fillBy, decideBy, loseOn, crashOn, suspectOn}
 use Rattle.register.specs.Made.{Underway, brings, MadeRegister}

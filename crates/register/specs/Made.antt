@@ -9,10 +9,10 @@ use Rattle.std.specs.Options.{isSome}
 use Rattle.std.specs.shelf.Lists.{All}
 use Rattle.std.specs.declared.option.Option.{Option}
 use Rattle.std.specs.declared.option.Option.the-variants.{Some}
-use Rattle.shared.specs.Cards.{CardState, crashedIn, SoundCards}
-use Rattle.shared.specs.Tables.{ballotIn}
-use Rattle.shared.specs.Wires.{anyOf}
-use Rattle.shared.specs.declared.wire.Item.{Item}
+use Rattle.cards.specs.Cards.{CardState, crashedIn, SoundCards}
+use Rattle.tables.specs.Tables.{ballotIn}
+use Rattle.wire.specs.Wires.{anyOf}
+use Rattle.wire.specs.declared.Item.{Item}
 use Rattle.register.specs.Held.{heldIn}
 use Rattle.register.specs.Register.{RegisterState}
 

@@ -9,10 +9,10 @@ use Rattle.std.specs.declared.option.Option.{Option}
 use Rattle.std.specs.declared.option.Option.the-variants.{Some, None}
 use Rattle.parts.specs.Views.{ConsensusView}
 use Rattle.parts.specs.Deciding.{consensusView}
-use Rattle.shared.specs.Cards.{CardState, cardsOf, crashedIn, suspectsIn, newCards, withCrash, withSuspicion}
-use Rattle.shared.specs.Tables.{ballotsOf, newBallots, ballotIn, withBallot}
-use Rattle.shared.specs.Wires.{itemsOf, senders, item}
-use Rattle.shared.specs.declared.wire.Item.{Item}
+use Rattle.cards.specs.Cards.{CardState, cardsOf, crashedIn, suspectsIn, newCards, withCrash, withSuspicion}
+use Rattle.tables.specs.Tables.{ballotsOf, newBallots, ballotIn, withBallot}
+use Rattle.wire.specs.Wires.{itemsOf, senders, item}
+use Rattle.wire.specs.declared.Item.{Item}
 use Rattle.register.specs.Held.{heldOf, heldIn, filled}
 use Rattle.register.specs.declared.state.Register.{Register}
 

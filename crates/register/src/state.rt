@@ -1,11 +1,11 @@
 ghost use Prim.Native.Nat.{_+_, _≤_};
 ghost use lib.ListN.{length};
-ghost use Rattle.shared.specs.Tables.{ballotsOf, freeBallots};
-ghost use Rattle.shared.specs.Wires.{itemsOf, roomOf};
+ghost use Rattle.tables.specs.Tables.{ballotsOf, freeBallots};
+ghost use Rattle.wire.specs.Wires.{itemsOf, roomOf};
 use crate::held::Held;
-use shared::ballots::Ballots;
-use shared::cards::Cards;
-use shared::wire::Wire;
+use cards::Cards;
+use tables::ballots::Ballots;
+use wire::Wire;
 
 pub mod consensus;
 pub mod steps;

@@ -3,7 +3,7 @@
 use Prim.Native.Nat.{ℕ}
 use Rattle.parts.specs.Views.{BroadcastView}
 use Rattle.parts.specs.Broadcasting.{broadcastView}
-use Rattle.shared.specs.Tables.{setIn}
+use Rattle.tables.specs.Tables.{setIn}
 use Rattle.spread.specs.Spread.{SpreadState, spreadOf, spreadWork}
 use Rattle.spread.specs.Seen.{spreadCards, spreadCrashed, spreadSuspects, spreadWire, spreadPoster}
 use Rattle.relay.specs.declared.state.Relay.{Relay}

@@ -22,10 +22,11 @@ use Rattle.schedule.specs.declared.contents.BroadcastPart.the-variants.{Relay,
 use Rattle.schedule.specs.declared.contents.ConsensusPart.{ConsensusPart}
 use Rattle.schedule.specs.declared.contents.ConsensusPart.the-variants.{Flood, Register}
 use Rattle.schedule.specs.declared.contents.Pile.{Pile}
-use Rattle.schedule.specs.Chains.{bind}
+use Rattle.entries.specs.Chains.{bind}
 use Rattle.schedule.specs.Contents.{kindIn, broadcastIn, consensusIn, pileIn, countIn, keyed, pileFrom, kindOf, countOf, pileOf}
-use Rattle.schedule.specs.Written.{ReadsWritten, anywhere, Always, kindWord, kindWords, kindText, broadcastWord, consensusWord, pileWords, pileText, countWords, countText, Between}
-use Rattle.schedule.proofs.WordLaws.{bind-some, cond-some, literal-plain, decimal-plain, Plain, Wordy, by-words, word-only, number-only, number-back}
+use Rattle.entries.specs.Written.{ReadsWritten, anywhere}
+use Rattle.schedule.specs.Written.{Always, kindWord, kindWords, kindText, broadcastWord, consensusWord, pileWords, pileText, countWords, countText, Between}
+use Rattle.entries.proofs.WordLaws.{bind-some, cond-some, literal-plain, decimal-plain, Plain, Wordy, by-words, word-only, number-only, number-back}
 
 -- one word among several
 among : {A : Type 0} (f : Cut) (w : List ℕ) (v y : A) (o : Option A) (P : Type 0) → cond (isWord w f) (Some v) o ≡ Some y → (fieldBytes f ≡ w → v ≡ y → P) → (o ≡ Some y → P) → P

@@ -17,12 +17,13 @@ use Rattle.schedule.specs.declared.contents.BroadcastPart.the-variants.{Relay}
 use Rattle.schedule.specs.declared.contents.ConsensusPart.the-variants.{Flood}
 use Rattle.schedule.specs.declared.contents.Pile.{Pile}
 use Rattle.schedule.specs.declared.contents.Contents.{Contents}
-use Rattle.schedule.specs.Chains.{andThen}
-use Rattle.schedule.specs.Lines.{lineBy}
+use Rattle.entries.specs.Chains.{andThen}
+use Rattle.entries.specs.Lines.{lineBy}
 use Rattle.schedule.specs.Contents.{kindOf, countOf, pileOf, contentsOf}
-use Rattle.schedule.specs.Written.{ReadsWritten, anywhere, Always, Between, kindText, countText, pileText, contentsLines, ContentsAllowed, writtenLines, lineItself, contentsText}
+use Rattle.entries.specs.Written.{ReadsWritten, anywhere, writtenLines, lineItself}
+use Rattle.schedule.specs.Written.{Always, Between, kindText, countText, pileText, contentsLines, ContentsAllowed, contentsText}
 use Rattle.schedule.specs.Says.{ContentsStop, ContentsSays}
-use Rattle.schedule.proofs.RuleLaws.{one-only, one-back, one-fault, one-due}
+use Rattle.entries.proofs.RuleLaws.{one-only, one-back, one-fault, one-due}
 use Rattle.schedule.proofs.ContentsLaws.{kind-reads, cards-read, pile-reads, notes-read, events-read}
 
 -- The readings, one after the other

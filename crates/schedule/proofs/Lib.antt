@@ -1,6 +1,2 @@
-pub mod WordLaws
-pub mod EventLaws
-pub mod NoteLaws
 pub mod ContentsLaws
-pub mod RuleLaws
 pub mod ContentsWhole

@@ -19,8 +19,8 @@ use Rattle.schedule.specs.declared.contents.ConsensusPart.{ConsensusPart}
 use Rattle.schedule.specs.declared.contents.ConsensusPart.the-variants.{Flood, Register}
 use Rattle.schedule.specs.declared.contents.Pile.{Pile}
 use Rattle.schedule.specs.declared.contents.Contents.{Contents}
-use Rattle.schedule.specs.Chains.{bind, andThen, ofTwo}
-use Rattle.schedule.specs.Lines.{lineBy}
+use Rattle.entries.specs.Chains.{bind, andThen, ofTwo}
+use Rattle.entries.specs.Lines.{lineBy}
 
 abbrev pub kindIn : Cut → Option NoteKind
 kindIn f = cond (isWord (codes "wear") f) (Some Wear) (cond (isWord (codes "label") f) (Some Label) None)

@@ -8,7 +8,8 @@ use Rattle.std.specs.declared.result.Result.the-variants.{Ok, Err}
 use Rattle.text.specs.declared.fault.LineFault.{LineFault}
 use Rattle.text.specs.Parts.{Span, faultAt}
 use Rattle.schedule.specs.declared.contents.Contents.{Contents}
-use Rattle.schedule.specs.Written.{writtenLines, lineItself, contentsLines, contentsText, ContentsAllowed}
+use Rattle.entries.specs.Written.{writtenLines, lineItself}
+use Rattle.schedule.specs.Written.{contentsLines, contentsText, ContentsAllowed}
 
 -- Some lines of some contents stand first, and what is left does not begin with the next line of any contents.
 pub record ContentsStop (p : Span) (f : LineFault) : Type 0 where

@@ -1,5 +1,3 @@
-// Schedules: what their files hold, what may be wrong with one, and what each line says.
+// The contents of a schedule: what they say of it, how they are written, and reading them.
 pub mod contents;
-pub mod event;
-pub mod fault;
-pub mod reader;
+pub mod reading;

@@ -19,14 +19,14 @@ use Rattle.std.proofs.shelf.Tests.{or-cases, or-left, or-right, or-parts, and-p
 use Rattle.std.proofs.shelf.Ways.{tells}
 use Rattle.notes.specs.Sets.{has}
 use Rattle.notes.proofs.Bits.{has-none}
-use Rattle.shared.specs.Cards.{CardState, crashedIn, withCrash}
-use Rattle.shared.specs.Tables.{posterIn, setIn, withNote}
-use Rattle.shared.specs.Wires.{item, goesTo, sent, elsewhere, anyOf}
-use Rattle.shared.specs.declared.wire.Item.{Item}
-use Rattle.shared.proofs.Changes.{posted-more, posted-below, poster-each, noted-more, noted-others-stay, noted-fits}
-use Rattle.shared.proofs.Items.{all-removed, all-nth, all-left, all-sent-are, any-append, any-split, any-left, any-sent}
-use Rattle.shared.proofs.Lists.{same-all}
-use Rattle.shared.proofs.Nets.{new-sound, crash-sound, crash-more, suspect-sound}
+use Rattle.cards.specs.Cards.{CardState, crashedIn, withCrash}
+use Rattle.tables.specs.Tables.{posterIn, setIn, withNote}
+use Rattle.wire.specs.Wires.{item, goesTo, sent, elsewhere, anyOf}
+use Rattle.wire.specs.declared.Item.{Item}
+use Rattle.tables.proofs.Changes.{posted-more, posted-below, poster-each, noted-more, noted-others-stay, noted-fits}
+use Rattle.wire.proofs.Items.{all-removed, all-nth, all-left, all-sent-are, any-append, any-split, any-left, any-sent}
+use Rattle.cards.proofs.Lists.{same-all}
+use Rattle.cards.proofs.Nets.{new-sound, crash-sound, crash-more, suspect-sound}
 use Rattle.spread.specs.Spread.{SpreadState, lacks, newSpread, relayOn, meetOn, postedBy, postOn, withoutItem, carryOn, crashOn, suspectOn}
 use Rattle.spread.specs.Made.{Underway, brings, SoundSpread, MadeSpread}
 use Rattle.spread.proofs.Rooms.{lacks-parts, lacks-not, meet-cases}

@@ -14,15 +14,15 @@ use Rattle.std.proofs.shelf.Tests.{both-ways, or-left, eq-eqb}
 use Rattle.notes.specs.Sets.{has}
 use Rattle.parts.specs.Views.{Net}
 use Rattle.parts.specs.Nets.{NewNet, NetCarried, NetLost, NetCrashed, NetSuspected, LawfulNet}
-use Rattle.shared.specs.Cards.{crashedIn, netOf}
-use Rattle.shared.specs.Tables.{posterIn, setIn}
-use Rattle.shared.specs.Wires.{senders, elsewhere}
-use Rattle.shared.specs.declared.wire.Item.{Item}
-use Rattle.shared.proofs.Changes.{posted-more, noted-others-stay}
-use Rattle.shared.proofs.Items.{part-left}
-use Rattle.shared.proofs.Nets.{new-net, same-cards, net-crashed, net-suspected, lawful-net}
-use Rattle.shared.proofs.Taken.{senders-removed}
-use Rattle.shared.proofs.Wires.{length-senders}
+use Rattle.cards.specs.Cards.{crashedIn, netOf}
+use Rattle.tables.specs.Tables.{posterIn, setIn}
+use Rattle.wire.specs.Wires.{senders, elsewhere}
+use Rattle.wire.specs.declared.Item.{Item}
+use Rattle.tables.proofs.Changes.{posted-more, noted-others-stay}
+use Rattle.wire.proofs.Items.{part-left}
+use Rattle.cards.proofs.Nets.{new-net, same-cards, net-crashed, net-suspected, lawful-net}
+use Rattle.wire.proofs.Taken.{senders-removed}
+use Rattle.wire.proofs.Wires.{length-senders}
 use Rattle.spread.specs.Spread.{SpreadState, spreadWork, newSpread, meetOn, postedBy, postOn, withoutItem, crashOn, suspectOn}
 use Rattle.spread.specs.Made.{Underway, SoundSpread}
 use Rattle.spread.proofs.Keeps.{posted-sound, removed-sound, item-at}

@@ -11,8 +11,8 @@ use Rattle.std.proofs.shelf.Tests.{cases-bool, cases-lt, or-cases, or-left, or-
 use Rattle.std.proofs.shelf.Ways.{tells}
 use Rattle.notes.specs.Sets.{has, howMany}
 use Rattle.notes.proofs.Counting.{count-le, count-lt}
-use Rattle.shared.specs.Tables.{setIn, withNote}
-use Rattle.shared.proofs.Changes.{noted-more}
+use Rattle.tables.specs.Tables.{setIn, withNote}
+use Rattle.tables.proofs.Changes.{noted-more}
 use Rattle.spread.specs.Counts.{pairs, unrelayed}
 
 count-none : (f : ℕ → Bool) (k : ℕ) → ((m : ℕ) → f m ≡ false) → howMany f k ≡ 0

@@ -11,10 +11,10 @@ use Rattle.std.proofs.shelf.Tests.{and-parts, ltb-true, not-true}
 use Rattle.std.proofs.shelf.Ways.{tells}
 use Rattle.notes.specs.Models.{bits}
 use Rattle.notes.specs.Sets.{has}
-use Rattle.shared.specs.Cards.{cardsOf}
-use Rattle.shared.specs.Tables.{cardSetsOf, setIn, withNote}
-use Rattle.shared.specs.Wires.{itemsOf, roomOf, sent}
-use Rattle.shared.proofs.Wires.{length-sent-others}
+use Rattle.cards.specs.Cards.{cardsOf}
+use Rattle.tables.specs.Tables.{cardSetsOf, setIn, withNote}
+use Rattle.wire.specs.Wires.{itemsOf, roomOf, sent}
+use Rattle.wire.proofs.Wires.{length-sent-others}
 use Rattle.spread.specs.Counts.{unrelayed}
 use Rattle.spread.specs.Spread.{SpreadState, spreadOf, lacks, relayOn, meetOn}
 use Rattle.spread.specs.declared.state.Spread.{Spread}

@@ -16,14 +16,14 @@ use Rattle.std.proofs.shelf.Lists.{length-append}
 use Rattle.std.proofs.shelf.Tests.{cases-bool, cond-both, or-parts, or-left, or-right, and-parts, and-from, and-left, and-right, eq-eqb, not-true, not-from-true, not-from-false}
 use Rattle.std.proofs.shelf.Ways.{tells}
 use Rattle.notes.specs.Sets.{has}
-use Rattle.shared.specs.Cards.{crashedIn, SoundCards}
-use Rattle.shared.specs.Tables.{posterIn, setIn, withNote}
-use Rattle.shared.specs.Wires.{sent, elsewhere}
-use Rattle.shared.proofs.Changes.{posted-more, noted-more}
-use Rattle.shared.proofs.Items.{length-left}
-use Rattle.shared.proofs.Lists.{same-all}
-use Rattle.shared.proofs.Nets.{crash-more}
-use Rattle.shared.proofs.Wires.{length-sent-others}
+use Rattle.cards.specs.Cards.{crashedIn, SoundCards}
+use Rattle.tables.specs.Tables.{posterIn, setIn, withNote}
+use Rattle.wire.specs.Wires.{sent, elsewhere}
+use Rattle.tables.proofs.Changes.{posted-more, noted-more}
+use Rattle.wire.proofs.Items.{length-left}
+use Rattle.cards.proofs.Lists.{same-all}
+use Rattle.cards.proofs.Nets.{crash-more}
+use Rattle.wire.proofs.Wires.{length-sent-others}
 use Rattle.spread.specs.Counts.{pairs}
 use Rattle.spread.specs.Spread.{SpreadState, lacks, owes, spreadWork, newSpread, relayOn, meetOn, postedBy, postOn, withoutItem, crashOn, suspectOn}
 use Rattle.spread.specs.Made.{SoundSpread}

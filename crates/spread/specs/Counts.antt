@@ -3,7 +3,7 @@ use mathlib.Core.Bool.{Bool, not}
 use mathlib.Core.List.{List}
 use Prim.Native.Nat.{ℕ, zero, suc, _+_}
 use Rattle.notes.specs.Sets.{has, howMany}
-use Rattle.shared.specs.Tables.{setIn}
+use Rattle.tables.specs.Tables.{setIn}
 
 -- How many pairs of a card below n and a note below k pass a test.
 abbrev pub pairs : (ℕ → ℕ → Bool) → ℕ → ℕ → ℕ

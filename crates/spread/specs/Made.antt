@@ -8,10 +8,10 @@ use Rattle.std.specs.Options.{isSome}
 use Rattle.std.specs.shelf.Lists.{All}
 use Rattle.std.specs.declared.option.Option.the-variants.{Some}
 use Rattle.notes.specs.Sets.{has}
-use Rattle.shared.specs.Cards.{crashedIn, SoundCards}
-use Rattle.shared.specs.Tables.{posterIn, setIn}
-use Rattle.shared.specs.Wires.{anyOf}
-use Rattle.shared.specs.declared.wire.Item.{Item}
+use Rattle.cards.specs.Cards.{crashedIn, SoundCards}
+use Rattle.tables.specs.Tables.{posterIn, setIn}
+use Rattle.wire.specs.Wires.{anyOf}
+use Rattle.wire.specs.declared.Item.{Item}
 use Rattle.spread.specs.Spread.{SpreadState}
 
 -- An item under way: from a card that relayed its note, to a running card, with a posted note.

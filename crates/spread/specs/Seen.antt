@@ -3,9 +3,9 @@ use mathlib.Core.Bool.{Bool}
 use mathlib.Core.List.{List}
 use Prim.Native.Nat.{ℕ}
 use Rattle.std.specs.declared.option.Option.{Option}
-use Rattle.shared.specs.Cards.{crashedIn, suspectsIn}
-use Rattle.shared.specs.Tables.{posterIn}
-use Rattle.shared.specs.Wires.{senders}
+use Rattle.cards.specs.Cards.{crashedIn, suspectsIn}
+use Rattle.tables.specs.Tables.{posterIn}
+use Rattle.wire.specs.Wires.{senders}
 use Rattle.spread.specs.Spread.{SpreadState}
 
 abbrev pub spreadCards : SpreadState → ℕ

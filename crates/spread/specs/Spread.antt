@@ -10,10 +10,10 @@ use Rattle.std.specs.Options.{isSome}
 use Rattle.std.specs.declared.option.Option.{Option}
 use Rattle.std.specs.declared.option.Option.the-variants.{Some, None}
 use Rattle.notes.specs.Sets.{has}
-use Rattle.shared.specs.Cards.{CardState, cardsOf, crashedIn, newCards, withCrash, withSuspicion}
-use Rattle.shared.specs.Tables.{postersOf, posterIn, cardSetsOf, setIn, withNote}
-use Rattle.shared.specs.Wires.{itemsOf, sent, withoutTo}
-use Rattle.shared.specs.declared.wire.Item.{Item}
+use Rattle.cards.specs.Cards.{CardState, cardsOf, crashedIn, newCards, withCrash, withSuspicion}
+use Rattle.tables.specs.Tables.{postersOf, posterIn, cardSetsOf, setIn, withNote}
+use Rattle.wire.specs.Wires.{itemsOf, sent, withoutTo}
+use Rattle.wire.specs.declared.Item.{Item}
 use Rattle.spread.specs.Counts.{pairs}
 use Rattle.spread.specs.declared.state.Spread.{Spread}
 

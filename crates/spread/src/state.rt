@@ -1,12 +1,12 @@
 ghost use Prim.Native.Nat.{_+_, _*_, _≤_};
 ghost use lib.ListN.{length};
-ghost use Rattle.shared.specs.Tables.{cardSetsOf};
-ghost use Rattle.shared.specs.Wires.{itemsOf, roomOf};
+ghost use Rattle.tables.specs.Tables.{cardSetsOf};
+ghost use Rattle.wire.specs.Wires.{itemsOf, roomOf};
 ghost use Rattle.spread.specs.Counts.{unrelayed};
-use shared::card_sets::CardSets;
-use shared::cards::Cards;
-use shared::posters::Posters;
-use shared::wire::Wire;
+use cards::Cards;
+use tables::card_sets::CardSets;
+use tables::posters::Posters;
+use wire::Wire;
 
 pub mod methods;
 

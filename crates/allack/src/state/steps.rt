@@ -5,7 +5,7 @@ ghost use Rattle.std.specs.Orderings.{Decides};
 ghost use Rattle.notes.specs.Models.{bits};
 ghost use Rattle.parts.specs.Broadcasting.{UniformAgreement};
 ghost use Rattle.parts.specs.Views.{Quiet};
-ghost use Rattle.shared.specs.Cards.{suspectsIn};
+ghost use Rattle.cards.specs.Cards.{suspectsIn};
 ghost use Rattle.allack.specs.AllAck.{allAckOf, seen, complete, common, handOn};
 ghost use Rattle.allack.specs.Counts.{countedIn};
 ghost use Rattle.allack.specs.Made.{MadeAllAck};

@@ -6,13 +6,13 @@ ghost use lib.ListN.{length};
 ghost use Rattle.std.specs.Orderings.{Decides};
 ghost use Rattle.parts.specs.Broadcasting.{UniformAgreement};
 ghost use Rattle.parts.specs.Views.{Quiet};
-ghost use Rattle.shared.specs.Cards.{cardsOf};
-ghost use Rattle.shared.specs.Wires.{itemsOf, roomOf, sent};
+ghost use Rattle.cards.specs.Cards.{cardsOf};
+ghost use Rattle.wire.specs.Wires.{itemsOf, roomOf, sent};
 ghost use Rattle.board.specs.Board.{boardOf, seen};
 ghost use Rattle.board.specs.Made.{MadeBoard};
 use super::Board;
-use shared::cards::Cards;
-use shared::wire::Wire;
+use cards::Cards;
+use wire::Wire;
 
 // Puts an item of the note for every running card on a wire that has room for them.
 pub(super) fn announce(wire: &mut Wire<usize>, cards: &Cards, note: usize)

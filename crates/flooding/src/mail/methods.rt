@@ -9,19 +9,19 @@ ghost use Rattle.std.specs.Holes.{removed};
 ghost use Rattle.std.specs.Options.{isSome, mapped};
 ghost use Rattle.std.specs.Vec.{made as succeeded};
 ghost use Rattle.parts.specs.Refusals.{answered, loseAnswer};
-ghost use Rattle.shared.specs.Cards.{cardsOf, netOf};
-ghost use Rattle.shared.specs.Wires.{itemsOf, senders, sent, withoutTo};
+ghost use Rattle.cards.specs.Cards.{cardsOf, netOf};
+ghost use Rattle.wire.specs.Wires.{itemsOf, senders, sent, withoutTo};
 ghost use Rattle.flooding.specs.Mail.{loadOf, itemState, mailOf, mailRoom, takingOne, takingAt, takingIn};
 ghost use Rattle.flooding.specs.Seats.{seatOf};
 use super::Load;
 use super::Mail;
 use crate::seats::Seat;
+use cards::Cards;
 use parts::refusal::Refusal;
-use shared::cards::Cards;
-use shared::wire::Item;
-use shared::wire::Wire;
 use std::alloc::AllocError;
 use std::alloc::Global;
+use wire::Item;
+use wire::Wire;
 
 impl Mail {
     pub(crate) fn new(heap: Global) -> Result<Mail, AllocError>

@@ -3,12 +3,12 @@ ghost use mathlib.Core.List.{[]};
 ghost use Prim.Native.Nat.{ℕ};
 ghost use lib.ListN.{length, getD};
 ghost use Rattle.notes.specs.Models.{bits};
-ghost use Rattle.shared.specs.Cards.{cardsOf};
+ghost use Rattle.cards.specs.Cards.{cardsOf};
 ghost use Rattle.flooding.specs.Seats.{seatOf, seatsOf, newSeats, seatIn, withSeat, entering, hearing, accountedFor, allCounted, ready};
 use super::Seat;
 use super::Seats;
+use cards::Cards;
 use notes::set::NoteSet;
-use shared::cards::Cards;
 
 impl Seat {
     // A card enters a round: it has counted only itself.

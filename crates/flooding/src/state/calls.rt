@@ -11,12 +11,12 @@ ghost use Rattle.flooding.specs.Flooding.{floodingOf, floodingCards, floodingC
 use super::Flooding;
 use crate::mail::Mail;
 use crate::seats::Seats;
+use cards::Cards;
 use notes::set::NoteSet;
 use parts::refusal::Refusal;
-use shared::ballots::Ballots;
-use shared::cards::Cards;
 use std::alloc::AllocError;
 use std::alloc::Global;
+use tables::ballots::Ballots;
 
 impl Flooding {
     pub fn new(heap: Global, count: usize) -> Result<Flooding, AllocError>

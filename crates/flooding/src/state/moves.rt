@@ -4,7 +4,7 @@ ghost use Prim.Native.Nat.{_+_, _*_, _≤_, _<_};
 ghost use Rattle.std.specs.Options.{isSome, mapped};
 ghost use Rattle.notes.specs.Models.{bits};
 ghost use Rattle.notes.specs.Sets.{low};
-ghost use Rattle.shared.specs.Tables.{ballotsOf, ballotIn};
+ghost use Rattle.tables.specs.Tables.{ballotsOf, ballotIn};
 ghost use Rattle.flooding.specs.Flooding.{floodingOf, proposalOf, seatOn, sitOn, tellOn, takeInOn, enterOn, decideOn, mayMove, moveOn, stepOn, stepsOn, settleOn, throughOn, arriveOn, hearOn};
 ghost use Rattle.flooding.specs.Mail.{itemState};
 ghost use Rattle.flooding.specs.Room.{demand, roundsAfter};
@@ -14,7 +14,7 @@ use crate::mail::Load;
 use crate::seats::Seat;
 use histories::rounds;
 use notes::set::NoteSet;
-use shared::wire::Item;
+use wire::Item;
 
 impl Flooding {
     // The card enters a round: it sends what it knows, and only then takes in what was kept for the round.

@@ -5,14 +5,14 @@ ghost use Prim.Native.Nat.{_+_, _<_};
 ghost use lib.ListN.{length};
 ghost use Rattle.std.specs.Options.{mapped};
 ghost use Rattle.notes.specs.Models.{bits};
-ghost use Rattle.shared.specs.Cards.{cardsOf, crashedIn};
-ghost use Rattle.shared.specs.Tables.{ballotsOf, withBallot};
-ghost use Rattle.shared.specs.Wires.{itemsOf, roomOf, item};
+ghost use Rattle.cards.specs.Cards.{cardsOf, crashedIn};
+ghost use Rattle.tables.specs.Tables.{ballotsOf, withBallot};
+ghost use Rattle.wire.specs.Wires.{itemsOf, roomOf, item};
+use cards::Cards;
 use notes::set::NoteSet;
-use shared::ballots::Ballots;
-use shared::cards::Cards;
-use shared::wire::Item;
-use shared::wire::Wire;
+use tables::ballots::Ballots;
+use wire::Item;
+use wire::Wire;
 
 // Puts the card's item for the instance on a wire that has room for it: from the card to the carrier.
 pub(super) fn submit(wire: &mut Wire<usize>, card: usize, instance: usize)

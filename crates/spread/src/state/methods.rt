@@ -11,20 +11,20 @@ ghost use Rattle.std.specs.Vec.{made as succeeded};
 ghost use Rattle.notes.specs.Models.{bits};
 ghost use Rattle.parts.specs.Refusals.{answered, postAnswer, loseAnswer, crashAnswer, suspectAnswer};
 ghost use Rattle.parts.specs.Views.{Quiet};
-ghost use Rattle.shared.specs.Cards.{crashedIn, suspectsIn, netOf};
-ghost use Rattle.shared.specs.Tables.{posterIn, setIn, postsView};
-ghost use Rattle.shared.specs.Wires.{itemsOf, roomOf, senders};
+ghost use Rattle.cards.specs.Cards.{crashedIn, suspectsIn, netOf};
+ghost use Rattle.tables.specs.Tables.{posterIn, setIn, postsView};
+ghost use Rattle.wire.specs.Wires.{itemsOf, roomOf, senders};
 ghost use Rattle.spread.specs.Spread.{spreadOf, lacks, spreadWork, newSpread, relayOn, meetOn, postOn, withoutItem, carryOn, crashOn, suspectOn};
 use super::Spread;
+use cards::Cards;
 use notes::set::NoteSet;
 use parts::refusal::Refusal;
-use shared::card_sets::CardSets;
-use shared::cards::Cards;
-use shared::posters::Posters;
-use shared::wire::Item;
-use shared::wire::Wire;
 use std::alloc::AllocError;
 use std::alloc::Global;
+use tables::card_sets::CardSets;
+use tables::posters::Posters;
+use wire::Item;
+use wire::Wire;
 
 impl Spread {
     pub fn new(heap: Global, count: usize) -> Result<Spread, AllocError>

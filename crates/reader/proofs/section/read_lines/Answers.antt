@@ -4,7 +4,7 @@ use Prim.Native.Nat.{_-_}
 use native.Mathlib.Omega.{arith}
 use Rattle.std.proofs.shelf.Lists.{map-push}
 use Rattle.text.specs.Parts.{partOf}
-use Rattle.schedule.specs.Lines.{linesAfter}
+use Rattle.entries.specs.Lines.{linesAfter}
 use Rattle.reader.proofs.SectionLaws.{line-more, line-wrong, no-more}
 use Rattle.reader.proofs.section.read_lines.Needs as need
 

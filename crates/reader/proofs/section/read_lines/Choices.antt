@@ -3,7 +3,7 @@ use mathlib.Core.List.{map}
 use Prim.Native.Nat.{_+_, _-_, _≤_}
 use Rattle.std.specs.Of.Vec.{vec-items, vec-len, vec-cap}
 use Rattle.text.specs.Parts.{partOf}
-use Rattle.schedule.specs.Lines.{linesOf, linesAfter}
+use Rattle.entries.specs.Lines.{linesOf, linesAfter}
 use Rattle.reader.proofs.section.read_lines.Given as given
 
 abbrev pub Inv-loop-i : given.InvT-loop-i

@@ -1,5 +1,5 @@
 use mathlib.Core.Path.{refl}
-use Rattle.shared.proofs.Lists.{new-row}
+use Rattle.cards.proofs.Lists.{new-row}
 use Rattle.allack.proofs.counts.Counts.new.Needs as need
 
 pub ghost-result : need.ghost-result

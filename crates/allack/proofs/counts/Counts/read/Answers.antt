@@ -2,7 +2,7 @@ use mathlib.Core.Path.{sym, ap, _∙_}
 use mathlib.Core.Logic.{inl, inr, ⊎-elim}
 use native.Mathlib.Omega.{arith}
 use Rattle.notes.specs.Models.{bits}
-use Rattle.shared.proofs.Lists.{read-rows, read-past}
+use Rattle.cards.proofs.Lists.{read-rows, read-past}
 use Rattle.allack.proofs.counts.Counts.read.Needs as need
 
 pub returns-then-relayer-lt6 : need.returns-then-relayer-lt6

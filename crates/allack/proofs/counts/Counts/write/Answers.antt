@@ -3,7 +3,7 @@ use mathlib.Core.List.{map}
 use mathlib.Core.Logic.{inl, inr, ⊎-elim}
 use native.Mathlib.Omega.{arith}
 use Rattle.notes.specs.Models.{bits}
-use Rattle.shared.proofs.Lists.{write-rows, write-past}
+use Rattle.cards.proofs.Lists.{write-rows, write-past}
 use Rattle.allack.proofs.counts.Counts.write.Needs as need
 
 pub returns-then-relayer-lt6 : need.returns-then-relayer-lt6

@@ -1,8 +1,8 @@
 use native.Mathlib.Omega.{arith}
 use Rattle.std.proofs.shelf.Lists.{length-append}
-use Rattle.shared.specs.Cards.{cardsOf}
-use Rattle.shared.specs.Wires.{itemsOf, sent}
-use Rattle.shared.proofs.Wires.{length-sent}
+use Rattle.cards.specs.Cards.{cardsOf}
+use Rattle.wire.specs.Wires.{itemsOf, sent}
+use Rattle.wire.proofs.Wires.{length-sent}
 use Rattle.board.proofs.state.steps.announce.Needs as need
 
 pub returns : need.returns

@@ -5,7 +5,7 @@ use native.Mathlib.Omega.{arith}
 use lib.ListN.{length}
 use Rattle.std.proofs.shelf.Lists.{length-map, map-append}
 use Rattle.std.proofs.shelf.Tests.{cond-true, lt-ltb}
-use Rattle.shared.specs.Wires.{itemsOf, roomOf}
+use Rattle.wire.specs.Wires.{itemsOf, roomOf}
 use Rattle.flooding.specs.Mail.{itemState}
 use Rattle.flooding.proofs.mail.Mail.keep.Needs as need
 

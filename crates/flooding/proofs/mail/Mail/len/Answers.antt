@@ -1,6 +1,6 @@
 use mathlib.Core.Path.{_≡_, sym, ap, _∙_}
 use Rattle.std.proofs.shelf.Lists.{length-map}
-use Rattle.shared.specs.Wires.{itemsOf}
+use Rattle.wire.specs.Wires.{itemsOf}
 use lib.ListN.{length}
 use Rattle.flooding.specs.Mail.{itemState, mailOf}
 use Rattle.flooding.proofs.Mails.{senders-state}

@@ -2,7 +2,7 @@ use mathlib.Core.Path.{ap, _∙_}
 use mathlib.Core.List.{map}
 use native.Mathlib.Omega.{arith}
 use Rattle.std.proofs.shelf.Lists.{length-map}
-use Rattle.shared.specs.Wires.{itemsOf}
+use Rattle.wire.specs.Wires.{itemsOf}
 use Rattle.flooding.specs.Mail.{itemState}
 use Rattle.flooding.proofs.Mails.{without-state}
 use Rattle.flooding.proofs.mail.Mail.let_go.Needs as need

@@ -6,8 +6,8 @@ use lib.Dec.{eqb}
 use Rattle.std.specs.Holes.{removed}
 use Rattle.std.proofs.shelf.Lists.{length-map}
 use Rattle.parts.specs.Refusals.{answered, loseAnswer}
-use Rattle.shared.specs.Cards.{cardsOf, netOf}
-use Rattle.shared.specs.Wires.{itemsOf}
+use Rattle.cards.specs.Cards.{cardsOf, netOf}
+use Rattle.wire.specs.Wires.{itemsOf}
 use Rattle.flooding.specs.Mail.{itemState}
 use Rattle.flooding.proofs.Mails.{senders-state, removed-state, map-cond}
 use Rattle.flooding.proofs.mail.Mail.lose.Needs as need

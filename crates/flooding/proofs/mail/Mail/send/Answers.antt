@@ -4,9 +4,9 @@ use Prim.Native.Nat.{_+_, _≤_}
 use native.Mathlib.Omega.{arith}
 use lib.ListN.{length}
 use Rattle.std.proofs.shelf.Lists.{length-map, length-append, map-append}
-use Rattle.shared.specs.Cards.{cardsOf}
-use Rattle.shared.specs.Wires.{itemsOf, sent}
-use Rattle.shared.proofs.Wires.{length-sent-others}
+use Rattle.cards.specs.Cards.{cardsOf}
+use Rattle.wire.specs.Wires.{itemsOf, sent}
+use Rattle.wire.proofs.Wires.{length-sent-others}
 use Rattle.flooding.specs.Mail.{itemState}
 use Rattle.flooding.proofs.Mails.{sent-state}
 use Rattle.flooding.proofs.mail.Mail.send.Needs as need

@@ -1,6 +1,6 @@
 use mathlib.Core.Path.{sym, ap, _∙_}
 use Rattle.std.specs.Finite.{nth}
-use Rattle.shared.specs.Wires.{itemsOf}
+use Rattle.wire.specs.Wires.{itemsOf}
 use Rattle.flooding.proofs.Mails.{senders-state}
 use Rattle.flooding.proofs.mail.Mail.sender_of.Needs as need
 

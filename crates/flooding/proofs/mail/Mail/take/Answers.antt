@@ -5,8 +5,8 @@ use lib.ListN.{length}
 use native.Mathlib.Omega.{arith}
 use Rattle.std.proofs.shelf.Lists.{length-map}
 use Rattle.std.specs.Options.{isSome, mapped}
-use Rattle.shared.specs.Wires.{itemsOf}
-use Rattle.shared.proofs.Wires.{nth-map, length-senders}
+use Rattle.wire.specs.Wires.{itemsOf}
+use Rattle.wire.proofs.Wires.{nth-map, length-senders}
 use Rattle.flooding.specs.Mail.{itemState}
 use Rattle.flooding.proofs.Mails.{senders-state, removed-state, removed-length}
 use Rattle.flooding.proofs.mail.Mail.take.Needs as need

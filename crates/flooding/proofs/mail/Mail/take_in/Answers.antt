@@ -3,9 +3,9 @@ use native.Mathlib.Omega.{arith}
 use lib.ListN.{length, drop}
 use Rattle.std.proofs.shelf.Lists.{length-map, drop-all}
 use Rattle.std.specs.Finite.{nth}
-use Rattle.shared.specs.Cards.{cardsOf}
-use Rattle.shared.specs.Wires.{itemsOf}
-use Rattle.shared.proofs.Wires.{nth-map}
+use Rattle.cards.specs.Cards.{cardsOf}
+use Rattle.wire.specs.Wires.{itemsOf}
+use Rattle.wire.proofs.Wires.{nth-map}
 use Rattle.flooding.specs.Mail.{itemState, mailOf, takingAt, takingIn}
 use Rattle.flooding.specs.Seats.{seatOf}
 use Rattle.flooding.proofs.Mails.{taking-next}

@@ -1,6 +1,6 @@
 use mathlib.Core.Path.{_≡_}
 use lib.ListN.{drop}
-use Rattle.shared.specs.Cards.{cardsOf}
+use Rattle.cards.specs.Cards.{cardsOf}
 use Rattle.flooding.specs.Mail.{mailOf, takingIn}
 use Rattle.flooding.specs.Seats.{seatOf}
 use Rattle.flooding.proofs.mail.Mail.take_in.Given as given

@@ -1,6 +1,6 @@
 use mathlib.Core.Path.{sym}
 use native.Mathlib.Omega.{arith}
-use Rattle.shared.specs.Cards.{cardsOf}
+use Rattle.cards.specs.Cards.{cardsOf}
 use Rattle.flooding.specs.Seats.{seatOf}
 use Rattle.flooding.proofs.Counted.{all-more, all-but}
 use Rattle.flooding.proofs.seats.Seat.is_complete.Needs as need

@@ -1,6 +1,6 @@
 use mathlib.Core.Path.{_≡_}
 use mathlib.Core.Bool.{true}
-use Rattle.shared.specs.Cards.{cardsOf}
+use Rattle.cards.specs.Cards.{cardsOf}
 use Rattle.flooding.specs.Seats.{seatOf, allCounted}
 use Rattle.flooding.proofs.seats.Seat.is_complete.Given as given
 

@@ -1,6 +1,6 @@
 use mathlib.Core.Path.{refl}
 use lib.ListN.{replicate}
-use Rattle.shared.proofs.Lists.{new-row}
+use Rattle.cards.proofs.Lists.{new-row}
 use Rattle.flooding.proofs.seats.Seats.new.Needs as need
 
 pub ghost-result : need.ghost-result

@@ -3,7 +3,7 @@ use mathlib.Core.Logic.{inl, inr, ⊎-elim}
 use Prim.Native.Nat.{ℕ}
 use native.Mathlib.Omega.{arith}
 use Rattle.notes.specs.Models.{bits}
-use Rattle.shared.proofs.Lists.{read-rows, read-past}
+use Rattle.cards.proofs.Lists.{read-rows, read-past}
 use Rattle.flooding.specs.Seats.{SeatState, seatOf, seatIn, seatsOf, noSeat}
 use Rattle.flooding.specs.declared.seats.Seat.{Seat}
 use Rattle.flooding.proofs.seats.Seats.of.Needs as need

@@ -2,7 +2,7 @@ use mathlib.Core.Path.{sym, ap, _∙_}
 use mathlib.Core.List.{map}
 use mathlib.Core.Logic.{inl, inr, ⊎-elim}
 use native.Mathlib.Omega.{arith}
-use Rattle.shared.proofs.Lists.{write-rows, write-past}
+use Rattle.cards.proofs.Lists.{write-rows, write-past}
 use Rattle.flooding.specs.Seats.{seatOf}
 use Rattle.flooding.proofs.seats.Seats.put.Needs as need
 

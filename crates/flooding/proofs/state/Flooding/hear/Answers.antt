@@ -1,7 +1,7 @@
 use mathlib.Core.Path.{_≡_, ap, _∙_}
 use native.Mathlib.Omega.{arith}
 use Rattle.notes.specs.Models.{bits}
-use Rattle.shared.specs.Cards.{cardsOf}
+use Rattle.cards.specs.Cards.{cardsOf}
 use Rattle.flooding.specs.Room.{roundsAfter, roundsLeft}
 use Rattle.flooding.specs.Seats.{SeatState, seatOf, seatsOf, seatIn}
 use Rattle.flooding.proofs.Mails.{hearing-round}

@@ -1,7 +1,7 @@
 use mathlib.Core.Path.{ap}
 use native.Mathlib.Omega.{arith}
 use lib.ListN.{length}
-use Rattle.shared.specs.Tables.{freeBallots}
+use Rattle.tables.specs.Tables.{freeBallots}
 use Rattle.flooding.specs.Room.{roundsLeft}
 use Rattle.flooding.proofs.Rooms.{new-free, new-rounds}
 use Rattle.flooding.proofs.state.Flooding.new.Needs as need

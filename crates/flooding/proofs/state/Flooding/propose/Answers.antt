@@ -3,8 +3,8 @@ use native.Mathlib.Omega.{arith}
 use Rattle.notes.specs.Models.{bits}
 use Rattle.parts.specs.Refusals.{answered}
 use Rattle.parts.proofs.Accepted.{propose-accepted}
-use Rattle.shared.specs.Cards.{cardsOf}
-use Rattle.shared.specs.Tables.{ballotsOf, proposalsView, freeBallots}
+use Rattle.cards.specs.Cards.{cardsOf}
+use Rattle.tables.specs.Tables.{ballotsOf, proposalsView, freeBallots}
 use Rattle.flooding.proofs.Rooms.{rounds-first, free-less, free-after}
 use Rattle.flooding.proofs.state.Flooding.propose.Needs as need
 

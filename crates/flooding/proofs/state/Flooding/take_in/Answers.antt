@@ -1,6 +1,6 @@
 use mathlib.Core.Path.{_≡_, ap, _∙_}
 use native.Mathlib.Omega.{arith}
-use Rattle.shared.specs.Cards.{cardsOf}
+use Rattle.cards.specs.Cards.{cardsOf}
 use Rattle.flooding.specs.Mail.{mailOf}
 use Rattle.flooding.specs.Room.{roundsAfter, roundsLeft}
 use Rattle.flooding.specs.Seats.{SeatState, seatOf, seatsOf, seatIn}

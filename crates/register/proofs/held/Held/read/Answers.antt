@@ -4,7 +4,7 @@ use Rattle.std.specs.Options.{mapped}
 use Rattle.std.specs.declared.option.Option.the-variants.{None}
 use Rattle.std.proofs.shelf.Lists.{getD-past}
 use Rattle.notes.specs.Models.{bits}
-use Rattle.shared.proofs.Lists.{getD-map-at}
+use Rattle.cards.proofs.Lists.{getD-map-at}
 use Rattle.register.proofs.held.Held.read.Needs as need
 
 pub returns-then-instance-lt32 : need.returns-then-instance-lt32

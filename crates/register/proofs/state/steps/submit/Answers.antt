@@ -2,7 +2,7 @@ use mathlib.Core.Path.{ap, _∙_}
 use lib.ListN.{length}
 use Rattle.std.proofs.shelf.Lists.{length-push}
 use Rattle.std.proofs.shelf.Tests.{cond-true, lt-ltb}
-use Rattle.shared.specs.Wires.{itemsOf, item}
+use Rattle.wire.specs.Wires.{itemsOf, item}
 use Rattle.register.proofs.state.steps.submit.Needs as need
 
 pub returns : need.returns

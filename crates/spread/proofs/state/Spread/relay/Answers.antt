@@ -1,8 +1,8 @@
 use mathlib.Core.Path.{_≡_, refl, sym, ap, _∙_}
 use native.Mathlib.Omega.{arith}
 use lib.ListN.{length}
-use Rattle.shared.specs.Tables.{cardSetsOf}
-use Rattle.shared.specs.Wires.{itemsOf}
+use Rattle.tables.specs.Tables.{cardSetsOf}
+use Rattle.wire.specs.Wires.{itemsOf}
 use Rattle.spread.specs.Counts.{unrelayed}
 use Rattle.spread.proofs.Rooms.{relay-room}
 use Rattle.spread.proofs.state.Spread.relay.Needs as need

@@ -1,7 +1,7 @@
 use mathlib.Core.Path.{sym, ap, _∙_}
 use Rattle.std.proofs.shelf.Lists.{nil-from-length}
-use Rattle.shared.specs.Wires.{senders}
-use Rattle.shared.proofs.Nets.{quiet-when, suspected-when}
+use Rattle.wire.specs.Wires.{senders}
+use Rattle.cards.proofs.Nets.{quiet-when, suspected-when}
 use Rattle.spread.specs.Spread.{spreadOf, spreadWork}
 use Rattle.spread.proofs.state.Spread.settled.Needs as need
 

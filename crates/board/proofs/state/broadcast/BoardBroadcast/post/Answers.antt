@@ -1,9 +1,9 @@
 use mathlib.Core.Path.{_≡_, sym, ap}
 use native.Mathlib.Omega.{arith}
 use Rattle.parts.proofs.Accepted.{post-accepted}
-use Rattle.shared.specs.Cards.{cardsOf}
-use Rattle.shared.specs.Tables.{postersOf, postsView, freeNotes}
-use Rattle.shared.proofs.Free.{one-less-free}
+use Rattle.cards.specs.Cards.{cardsOf}
+use Rattle.tables.specs.Tables.{postersOf, postsView, freeNotes}
+use Rattle.tables.proofs.Free.{one-less-free}
 use Rattle.board.proofs.state.broadcast.BoardBroadcast.post.Needs as need
 
 -- The post takes one of the notes that were free, and with it the room of six items.

@@ -5,9 +5,9 @@ use mathlib.Core.List.{[]}
 use lib.ListN.{length, getD}
 use Rattle.notes.specs.Models.{bits}
 use Rattle.parts.proofs.Accepted.{propose-accepted}
-use Rattle.shared.specs.Cards.{cardsOf}
-use Rattle.shared.specs.Tables.{ballotsOf, proposalsView, freeBallots}
-use Rattle.shared.proofs.Free.{one-less-ballot, ballots-length, ballots-row}
+use Rattle.cards.specs.Cards.{cardsOf}
+use Rattle.tables.specs.Tables.{ballotsOf, proposalsView, freeBallots}
+use Rattle.tables.proofs.Free.{one-less-ballot, ballots-length, ballots-row}
 use Rattle.register.proofs.state.consensus.RegisterConsensus.propose.Needs as need
 
 -- The proposal is one of those that were to come, and takes the room of its item.

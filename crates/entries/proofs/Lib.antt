@@ -1,0 +1,4 @@
+pub mod WordLaws
+pub mod EventLaws
+pub mod NoteLaws
+pub mod RuleLaws

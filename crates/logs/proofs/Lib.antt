@@ -1,0 +1,5 @@
+pub mod Batches
+mod Counts
+pub mod Lowest
+mod Placed
+mod Rankings

@@ -1,0 +1,4 @@
+mod Batches
+mod Good
+mod Fits
+mod Law
