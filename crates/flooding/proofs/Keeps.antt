@@ -18,14 +18,14 @@ use Rattle.notes.specs.Sets.{has}
 use Rattle.notes.proofs.Bits.{has-none}
 use Rattle.parts.specs.Refusals.{loseAnswer, crashAnswer}
 use Rattle.parts.proofs.Accepted.{crash-accepted}
-use Rattle.shared.specs.Cards.{CardState, crashedIn, suspectsIn, newCards, withCrash}
-use Rattle.shared.specs.Tables.{newBallots, ballotIn}
-use Rattle.shared.specs.Wires.{anyOf, elsewhere}
-use Rattle.shared.specs.declared.wire.Item.{Item}
-use Rattle.shared.proofs.Items.{all-removed, all-left, any-split, any-left}
-use Rattle.shared.proofs.Lists.{same-rows, new-row}
-use Rattle.shared.proofs.Nets.{new-sound, crash-sound, crash-more}
-use Rattle.shared.proofs.Taken.{lost-item}
+use Rattle.cards.specs.Cards.{CardState, crashedIn, suspectsIn, newCards, withCrash}
+use Rattle.tables.specs.Tables.{newBallots, ballotIn}
+use Rattle.wire.specs.Wires.{anyOf, elsewhere}
+use Rattle.wire.specs.declared.Item.{Item}
+use Rattle.wire.proofs.Items.{all-removed, all-left, any-split, any-left}
+use Rattle.cards.proofs.Lists.{same-rows, new-row}
+use Rattle.cards.proofs.Nets.{new-sound, crash-sound, crash-more}
+use Rattle.wire.proofs.Taken.{lost-item}
 use Rattle.histories.specs.Moves.{Later, beginning}
 use Rattle.histories.proofs.Kept.{moves-make-histories}
 use Rattle.flooding.specs.Seats.{SeatState, noSeat, newSeats, seatIn, allCounted}

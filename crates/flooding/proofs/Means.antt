@@ -13,12 +13,12 @@ use Rattle.std.proofs.shelf.Tests.{cases-bool, cond-false, and-left, and-right,
 use Rattle.parts.specs.Refusals.{loseAnswer, crashAnswer}
 use Rattle.parts.specs.Deciding.{Started, Lost, Crashed}
 use Rattle.parts.proofs.Accepted.{crash-accepted}
-use Rattle.shared.specs.Cards.{CardState, crashedIn, newCards, withCrash, SoundCards}
-use Rattle.shared.specs.Wires.{elsewhere}
-use Rattle.shared.proofs.Items.{part-left, length-left}
-use Rattle.shared.proofs.Lists.{same-all, same-rows}
-use Rattle.shared.proofs.Nets.{same-cards, net-crashed, crash-more}
-use Rattle.shared.proofs.Taken.{lost-item, senders-removed}
+use Rattle.cards.specs.Cards.{CardState, crashedIn, newCards, withCrash, SoundCards}
+use Rattle.wire.specs.Wires.{elsewhere}
+use Rattle.wire.proofs.Items.{part-left, length-left}
+use Rattle.cards.proofs.Lists.{same-all, same-rows}
+use Rattle.cards.proofs.Nets.{same-cards, net-crashed, crash-more}
+use Rattle.wire.proofs.Taken.{lost-item, senders-removed}
 use Rattle.flooding.specs.Seats.{SeatState, noSeat, newSeats, seatIn}
 use Rattle.flooding.specs.Flooding.{FloodingState, total, toSend, floodingWork, seen, newFlooding, loseOn, crashOn}
 use Rattle.flooding.specs.Made.{MadeFlooding}

@@ -10,11 +10,11 @@ use lib.ListN.{length, getD, length-set}
 use Rattle.std.proofs.shelf.Lists.{length-append}
 use Rattle.std.proofs.shelf.Tests.{cases-bool, cases-eq, cond-true, cond-false, cond-both, and-parts, and-from, eqb-true, eq-eqb, ltb-true, lt-ltb, not-from-false, not-true}
 use Rattle.std.specs.Options.{isSome}
-use Rattle.shared.specs.Tables.{ballotIn}
-use Rattle.shared.specs.Cards.{CardState, crashedIn}
-use Rattle.shared.specs.Wires.{sent}
-use Rattle.shared.proofs.Lists.{row-written, rows-kept}
-use Rattle.shared.proofs.Wires.{length-sent-others}
+use Rattle.tables.specs.Tables.{ballotIn}
+use Rattle.cards.specs.Cards.{CardState, crashedIn}
+use Rattle.wire.specs.Wires.{sent}
+use Rattle.cards.proofs.Lists.{row-written, rows-kept}
+use Rattle.wire.proofs.Wires.{length-sent-others}
 use Rattle.flooding.specs.Seats.{SeatState, noSeat, seatIn, withSeat, entering, allCounted}
 use Rattle.flooding.specs.Mail.{LoadState, takingIn}
 use Rattle.flooding.specs.Flooding.{FloodingState, total, toSend, floodingWork, enterOn, decideOn, mayMove, moveOn, stepOn, stepsOn}
