@@ -1,6 +1,6 @@
 use crate::counts::Counts;
-use tables::card_sets::CardSets;
 use spread::state::Spread;
+use tables::card_sets::CardSets;
 
 pub mod broadcast;
 pub mod steps;

@@ -2,8 +2,8 @@ ghost use Prim.Native.Nat.{_+_, _*_, _≤_};
 ghost use lib.ListN.{length};
 ghost use Rattle.tables.specs.Tables.{postersOf, freeNotes};
 ghost use Rattle.wire.specs.Wires.{itemsOf, roomOf};
-use tables::card_sets::CardSets;
 use cards::Cards;
+use tables::card_sets::CardSets;
 use tables::posters::Posters;
 use wire::Wire;
 

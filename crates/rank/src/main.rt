@@ -4,11 +4,11 @@ mod listing;
 use crate::listing::LabelListed;
 use crate::listing::WearListed;
 use crate::listing::print_ranked;
+use faults::FileFaultDisplay;
 use reader::read::read;
 use reader::schedule::Notes;
 use reader::schedule::Schedule;
 use reader::schedule::Unread;
-use faults::FileFaultDisplay;
 use std::error::AnyError;
 use std::io::Read;
 

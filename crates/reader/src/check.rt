@@ -4,10 +4,10 @@ ghost use Rattle.reader.specs.Files.{scheduleOf, contentsIn};
 ghost use Rattle.reader.specs.Says.{CheckSays};
 use crate::section::check_events;
 use crate::section::check_notes;
-use schedule::contents::Contents;
 use faults::BodyFault;
 use faults::FileFault;
 use faults::LONGEST;
+use schedule::contents::Contents;
 use text::part::Part;
 
 fn first_fault(file: &[u8]) -> Result<Contents, FileFault>

@@ -1,9 +1,9 @@
 // A schedule that was read from a file.
+use entries::event::Event;
+use faults::FileFault;
 use labels::Label;
 use notes::wear::Wear;
 use schedule::contents::Contents;
-use entries::event::Event;
-use faults::FileFault;
 
 // The notes, all of the kind that the contents name.
 #[derive(Drop)]

@@ -10,15 +10,15 @@ ghost use Rattle.entries.specs.Written.{eventText, EventAllowed};
 ghost use Rattle.reader.specs.Sections.{endSeen, endOf, itemsSeen, notesOf};
 ghost use Rattle.reader.specs.Written.{noteText, NoteAllowed};
 ghost use Rattle.reader.specs.Says.{SectionSays};
-use labels::Label;
-use notes::wear::Wear;
-use schedule::contents::NoteKind;
 use entries::event::Event;
 use entries::event_line::EventLine;
 use entries::line::OneLine;
 use entries::line::first_line;
 use entries::note_line::LabelLine;
 use entries::note_line::WearLine;
+use labels::Label;
+use notes::wear::Wear;
+use schedule::contents::NoteKind;
 use text::fault::LineFault;
 use text::part::Part;
 

@@ -3,8 +3,8 @@ ghost use lib.ListN.{length};
 ghost use Rattle.tables.specs.Tables.{ballotsOf, freeBallots};
 ghost use Rattle.wire.specs.Wires.{itemsOf, roomOf};
 use crate::held::Held;
-use tables::ballots::Ballots;
 use cards::Cards;
+use tables::ballots::Ballots;
 use wire::Wire;
 
 pub mod consensus;

@@ -2,6 +2,10 @@
 mod files;
 mod table;
 
+use entries::event::EventDebug;
+use faults::BodyFault;
+use faults::FileFault;
+use faults::FileFaultDisplay;
 use files::BASE;
 use files::longest;
 use files::padded;
@@ -13,10 +17,6 @@ use reader::schedule::Notes;
 use reader::schedule::Schedule;
 use reader::schedule::Unread;
 use schedule::contents::ContentsDebug;
-use entries::event::EventDebug;
-use faults::BodyFault;
-use faults::FileFault;
-use faults::FileFaultDisplay;
 use std::io;
 use table::unescaped;
 use text::fault::LineFault;

@@ -3,8 +3,8 @@ ghost use lib.ListN.{length};
 ghost use Rattle.tables.specs.Tables.{cardSetsOf};
 ghost use Rattle.wire.specs.Wires.{itemsOf, roomOf};
 ghost use Rattle.spread.specs.Counts.{unrelayed};
-use tables::card_sets::CardSets;
 use cards::Cards;
+use tables::card_sets::CardSets;
 use tables::posters::Posters;
 use wire::Wire;
 

@@ -56,6 +56,13 @@ impl<P: Copy> Wire<P> {
         self.look(item)
     }
 
+    // The item at a place, if there is one; it stays on the wire.
+    pub fn get(&self, item: usize) -> Option<Item<P>>
+        ensures { λ r. ⌜ r ≡ nth (itemsOf (now (self .entry))) item ⌝ }
+    {
+        self.peek(item)
+    }
+
     // An item that finds no room does not join.
     pub fn join(&mut self, item: Item<P>)
         ensures items { λ _. ⌜ itemsOf (now (self .exit)) ≡ joined (roomOf (now (self .entry))) (itemsOf (now (self .entry))) item ⌝ }
@@ -133,6 +140,15 @@ impl<P: Copy> Wire<P> {
         ensures room { λ _. ⌜ roomOf (now (self .exit)) ≡ roomOf (now (self .entry)) ⌝ }
     {
         self.offer(cards, from, to, load);
+    }
+
+    fn peek(&self, item: usize) -> Option<Item<P>>
+        ensures { λ r. ⌜ r ≡ nth (itemsOf (now (self .entry))) item ⌝ }
+    {
+        match self.items.get(item) {
+            Some(found) => Some(*found),
+            None => None,
+        }
     }
 
     fn counted(&self) -> usize

@@ -6,10 +6,10 @@ use notes::set::NoteSet;
 use parts::broadcast::Broadcast;
 use parts::refusal::Refusal;
 use parts::uniform::Uniform;
-use tables::card_sets::CardSets;
 use spread::state::Spread;
 use std::alloc::AllocError;
 use std::alloc::Global;
+use tables::card_sets::CardSets;
 
 pub impl Broadcast for AllAck as AllAckBroadcast {
     ghost State = { AllAckState };

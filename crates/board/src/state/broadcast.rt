@@ -3,16 +3,16 @@ ghost use Rattle.board.specs.Made.{MadeBoard};
 use super::Board;
 use super::steps::announce;
 use super::steps::settled;
+use cards::Cards;
 use notes::set::NoteSet;
 use parts::broadcast::Broadcast;
 use parts::refusal::Refusal;
 use parts::uniform::Uniform;
-use tables::card_sets::CardSets;
-use cards::Cards;
-use tables::posters::Posters;
-use wire::Wire;
 use std::alloc::AllocError;
 use std::alloc::Global;
+use tables::card_sets::CardSets;
+use tables::posters::Posters;
+use wire::Wire;
 
 // A post puts one item for each of at most six cards.
 const ITEMS_OF_A_POST: u32 = 6;

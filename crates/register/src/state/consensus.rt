@@ -4,14 +4,14 @@ use super::Register;
 use super::steps::decide;
 use super::steps::submit;
 use crate::held::Held;
+use cards::Cards;
 use notes::set::NoteSet;
 use parts::consensus::Consensus;
 use parts::refusal::Refusal;
-use tables::ballots::Ballots;
-use cards::Cards;
-use wire::Wire;
 use std::alloc::AllocError;
 use std::alloc::Global;
+use tables::ballots::Ballots;
+use wire::Wire;
 
 // A proposal puts one item on the wire.
 const ITEMS_OF_A_PROPOSAL: u32 = 1;

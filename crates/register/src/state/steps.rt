@@ -8,9 +8,9 @@ ghost use Rattle.notes.specs.Models.{bits};
 ghost use Rattle.cards.specs.Cards.{cardsOf, crashedIn};
 ghost use Rattle.tables.specs.Tables.{ballotsOf, withBallot};
 ghost use Rattle.wire.specs.Wires.{itemsOf, roomOf, item};
+use cards::Cards;
 use notes::set::NoteSet;
 use tables::ballots::Ballots;
-use cards::Cards;
 use wire::Item;
 use wire::Wire;
 

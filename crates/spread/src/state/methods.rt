@@ -16,15 +16,15 @@ ghost use Rattle.tables.specs.Tables.{posterIn, setIn, postsView};
 ghost use Rattle.wire.specs.Wires.{itemsOf, roomOf, senders};
 ghost use Rattle.spread.specs.Spread.{spreadOf, lacks, spreadWork, newSpread, relayOn, meetOn, postOn, withoutItem, carryOn, crashOn, suspectOn};
 use super::Spread;
+use cards::Cards;
 use notes::set::NoteSet;
 use parts::refusal::Refusal;
+use std::alloc::AllocError;
+use std::alloc::Global;
 use tables::card_sets::CardSets;
-use cards::Cards;
 use tables::posters::Posters;
 use wire::Item;
 use wire::Wire;
-use std::alloc::AllocError;
-use std::alloc::Global;
 
 impl Spread {
     pub fn new(heap: Global, count: usize) -> Result<Spread, AllocError>

@@ -1,0 +1,4 @@
+pub mod Agrees
+pub mod Puts
+pub mod Kept
+pub mod Heard
