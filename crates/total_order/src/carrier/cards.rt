@@ -33,6 +33,13 @@ impl<B: Broadcast, C: Consensus> Carrier<B, C> {
         if cards < 6 { cards } else { 6 }
     }
 
+    // Whether a card has crashed.
+    pub fn has_crashed(&self, card: usize) -> bool
+        ensures { λ r. ⌜ r ≡ B·Broadcast .crashed (model B·Broadcast C·Consensus (now (self .entry)) .broadcast) card ⌝ }
+    {
+        self.broadcast.has_crashed(card)
+    }
+
     // The log of a card; there is none where there is no such card.
     pub fn log(&self, card: usize) -> &[usize]
         ensures { λ r. ⌜ now r ≡ logAt B·Broadcast C·Consensus (model B·Broadcast C·Consensus (now (self .entry))) card ⌝ }
