@@ -1,8 +1,8 @@
 #!/usr/bin/env python3
-"""A second carrier, written from the rules in docs/ and sharing no line with the proved one.
+"""A second carrier, written from the rules and sharing no line with the proved one.
 
 It reads a schedule file (standard input, or the files named) and prints the report. It is slow and plain on purpose:
-reports of the collection are derived with it and then compared with what the proved program prints.
+tools/compare.py compares its reports with what the proved program prints.
 """
 import sys
 
