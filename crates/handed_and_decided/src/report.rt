@@ -17,7 +17,7 @@ fn notes(rt: &LibcRuntime, set: NoteSet) -> io::Result<()> {
 }
 
 // A line for each card: its number, whether it runs, and the notes handed to it.
-pub fn handed<B: Broadcast>(rt: &LibcRuntime, broadcast: &B) -> io::Result<()> {
+pub(crate) fn handed<B: Broadcast>(rt: &LibcRuntime, broadcast: &B) -> io::Result<()> {
     for card in 0..broadcast.card_count() {
         print!(
             rt,
@@ -30,7 +30,7 @@ pub fn handed<B: Broadcast>(rt: &LibcRuntime, broadcast: &B) -> io::Result<()> {
 }
 
 // A line for each card: its number, whether it runs, and the notes that it has decided in the instance, if any.
-pub fn decisions<C: Consensus>(rt: &LibcRuntime, consensus: &C, instance: usize) -> io::Result<()> {
+pub(crate) fn decisions<C: Consensus>(rt: &LibcRuntime, consensus: &C, instance: usize) -> io::Result<()> {
     for card in 0..consensus.card_count() {
         print!(rt, "card {card} {}", state(consensus.has_crashed(card)))?;
         match consensus.decision_of(instance, card) {

@@ -7,7 +7,7 @@ pub const BASE: &[u8] =
     b"kind wear\ncards 2\npile board register\nnotes 2\nevents 6\n7 120\n3 55\nb 0 0\nb 1 1\nc b 0\np 0\np 1\nr 100\n";
 
 // The good file with byte `place` made 255.
-pub fn spoiled(heap: Global, place: usize) -> Result<Vec<u8>, AllocError> {
+pub(crate) fn spoiled(heap: Global, place: usize) -> Result<Vec<u8>, AllocError> {
     let mut out = Vec::new(heap);
     for (i, byte) in BASE.iter().enumerate() {
         out.push(if i == place { 255 } else { *byte })?;
@@ -16,7 +16,7 @@ pub fn spoiled(heap: Global, place: usize) -> Result<Vec<u8>, AllocError> {
 }
 
 // The longest lines in the greatest number.
-pub fn longest(heap: Global) -> Result<String, AllocError> {
+pub(crate) fn longest(heap: Global) -> Result<String, AllocError> {
     let mut out = String::from_str(
         heap,
         "kind wear\ncards 6\npile inturn allack register\nnotes 32\nevents 4096\n",
