@@ -30,7 +30,11 @@ pub(crate) fn handed<B: Broadcast>(rt: &LibcRuntime, broadcast: &B) -> io::Resul
 }
 
 // A line for each card: its number, whether it runs, and the notes that it has decided in the instance, if any.
-pub(crate) fn decisions<C: Consensus>(rt: &LibcRuntime, consensus: &C, instance: usize) -> io::Result<()> {
+pub(crate) fn decisions<C: Consensus>(
+    rt: &LibcRuntime,
+    consensus: &C,
+    instance: usize,
+) -> io::Result<()> {
     for card in 0..consensus.card_count() {
         print!(rt, "card {card} {}", state(consensus.has_crashed(card)))?;
         match consensus.decision_of(instance, card) {
