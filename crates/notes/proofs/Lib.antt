@@ -1,4 +1,3 @@
 pub mod Bits
 pub mod Counting
-mod Labels
 mod Ranks
