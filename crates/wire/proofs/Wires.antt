@@ -1,10 +1,10 @@
 -- The wire: items by place, room for what is sent, and a pass round the ring.
-use Rattle.std.proofs.Common.{◌≡◌, ℕ, zero, suc, ◌+◌, ◌<◌, ◌≤◌, true, false, cond, ltb, List, [], ◌∷◌, ◌++◌, map, length, get_or, is_some, Some, None, Option, unwrap_or, sym, refl, ap, ◌∙◌, ⊎_elim, append_assoc, append-nil, add-one, arith, MatchOption}
+use Rattle.std.proofs.Common.{◌≡◌, ℕ, zero, suc, ◌+◌, ◌<◌, ◌≤◌, true, false, cond, ltb, List, [], ◌∷◌, ◌++◌, map, length, get_or, is_some, Some, None, Option, unwrap_or, sym, refl, ap, ◌∙◌, ⊎_elim, append_assoc, append-nil, add-one, arith}
 use Rattle.std.specs.List.{slice_get, remove}
-use Rattle.std.specs.Option.{option_map}
+use Rattle.std.specs.Option.{option_map, IsSome, IfSome, IfNone, OnSome}
 use Rattle.std.proofs.lemmas.List.{length-append, length-map, take_all, drop_all}
 use Rattle.std.proofs.lemmas.Option.{slice_get_read, slice_get_past}
-use Rattle.std.proofs.lemmas.Bool.{cases_Bool, cases_lt, cond-true, cond-false, cond_both, and_right, not_from_true, eq-eqb, lt-ltb, le-ltb}
+use Rattle.std.proofs.lemmas.Bool.{false≢true, cases_Bool, cases_lt, cond-true, cond-false, cond_both, and_right, not_from_true, eq-eqb, lt-ltb, le-ltb}
 use Rattle.std.proofs.lemmas.Bool.Decides.{nat_tests}
 use Rattle.cards.specs.Cards.{CardState}
 use Rattle.wire.specs.Wires.{item, senders, joined, goes_to, sending, sent, elsewhere, without_to, turned, turned_times}
@@ -47,10 +47,11 @@ sender_at xs i o e =
     (v, ap is_some (sym e) ∙ nth_there xs i ∙ ap (ltb i) (sym (length_senders xs)), ap (λ z. unwrap_or z 7) v ∙ nth_or (senders xs) i 7)
 
 -- What `remove` of a ring gives.
-pub pulled : {X Same : Type 0} (xs ys : List X) (n m i : ℕ) (r : Option X) → n ≡ length xs → (Same → ys ≡ xs)
-    → MatchOption r ((n ≤ i) × Same) (λ y. (y ≡ get_or xs i y) × ((ys ≡ remove xs i) × ((m + 1 ≡ n) × (i < n)))) → (slice_get xs i ≡ r) × (ys ≡ remove xs i)
-pulled xs ys n m i None e f h = (slice_get_past xs i (omega (arith, h.0)), f h.1 ∙ sym (removed_past xs i (omega (arith, h.0))))
-pulled xs ys n m i (Some y) e f h = (slice_get_read xs n i y e h.1.1.1 h.0, h.1.0)
+pub pulled : {X Same : Type 0} (xs ys : List X) (n i : ℕ) (r : Option X) → n ≡ length xs → (Same → ys ≡ xs)
+    → IfSome r (λ y. y ≡ get_or xs i y) → OnSome r (ys ≡ remove xs i) → (IsSome r → i < n) × (i < n → IsSome r) → IfNone r Same → (slice_get xs i ≡ r) × (ys ≡ remove xs i)
+pulled xs ys n i None e f value items there same =
+    let past : n ≤ i = ⊎_elim (λ l. absurd (false≢true (there.1 l))) (λ g. g) (cases_lt i n) in (slice_get_past xs i (omega arith), f same ∙ sym (removed_past xs i (omega arith)))
+pulled xs ys n i (Some y) e f value items there same = (slice_get_read xs n i y e (there.0 refl) value, items)
 
 -- All that is sent finds room, where there is room for so many.
 

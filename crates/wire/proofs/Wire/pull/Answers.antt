@@ -6,7 +6,8 @@ use Rattle.wire.proofs.Wire.pull.Goals as goal
 pub returns : goal.returns
 returns g c =
     let d = c.args.self.now.items in
-    let p = pulled d.items c.remove.new.self.items d.len c.remove.new.self.len c.args.item c.remove.result d.ok.0 (ap deque_items) c.remove.ensures.cases in
+    let e = c.remove.ensures in
+    let p = pulled d.items c.remove.new.self.items d.len c.args.item c.remove.result d.ok.0 (ap deque_items) e.value e.items e.variant e.unchanged in
     let there = (sender_at d.items c.args.item c.remove.result p.0).1 in
     record {
       value = sym p.0;
