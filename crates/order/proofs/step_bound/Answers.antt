@@ -10,5 +10,5 @@ bound_fits posts broadcast cards per-card hp hb hc hk =
     let outer = mul-le posts (broadcast + cards * per-card) (2 ^ 8) (2 ^ 42) (omega arith) (omega arith) in
     omega arith
 
-pub overflow-mul-result-2 : goal.overflow-mul-result-2
-overflow-mul-result-2 c = bound_fits _ _ _ _ (omega arith) (omega arith) (omega arith) (omega arith)
+pub overflow_mul-result-2 : goal.overflow_mul-result-2
+overflow_mul-result-2 c = bound_fits _ _ _ _ (omega arith) (omega arith) (omega arith) (omega arith)
