@@ -7,8 +7,8 @@ use Rattle.inturn.specs.declared.post.Post.{Post}
 use Rattle.inturn.specs.Turns.{post_of, written}
 use Rattle.inturn.specs.Layers.{Layered, layered}
 use Rattle.inturn.specs.Calls.{Behaviour, in_turn_over, Call, post, carry, lose, crash, suspect, answer, accepted, next, after, answers, posts_in, accepted_posts, AsBelow, TwiceAsOnce}
-use Rattle.inturn.proofs.Turns.{in_turn_again}
-use Rattle.inturn.proofs.Layers.{Means, small_notes, MadeOver, table_grows, means_in_turn}
+use Rattle.inturn.specs.Counts.{in_turn_again}
+use Rattle.inturn.specs.Means.{Means, small_notes, MadeOver, table_grows, means_in_turn}
 
 -- Each call keeps what is made.
 module _ {S : Type 0} (b : Behaviour S) (made : S → Type 0) (bound : ℕ) (means : Means b made bound) where

@@ -2,3 +2,6 @@ pub mod Turns
 pub mod Layers
 pub mod Models
 pub mod Calls
+pub mod Counts
+pub mod Tables
+pub mod Means

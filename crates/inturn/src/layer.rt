@@ -3,6 +3,8 @@ ghost use Rattle.notes.specs.Sets.{has};
 ghost use Rattle.inturn.specs.Layers.{Layered, MadeInTurn, HeldInTurn, InOrder};
 ghost use Rattle.inturn.specs.Models.{layer_of, posted_in, Made, view_below, view_in_turn};
 ghost use Rattle.inturn.specs.Calls.{behaviour, in_turn_over, AsBelow, TwiceAsOnce};
+ghost use Rattle.inturn.specs.Means.{means_in_turn};
+ghost use Rattle.parts.specs.Broadcasting.{broadcast_view};
 
 use self::facts::{
     agreement_carries_over, all_is_as_below, notes_count_in_order, two_layers_are_one,
@@ -57,6 +59,16 @@ impl<B: Broadcast> Broadcast for InTurn<B> {
     ghost crashing = { (in_turn_over (behaviour B.Broadcast)).crashing };
 
     ghost suspecting = { (in_turn_over (behaviour B.Broadcast)).suspecting };
+
+    ghost meaning = { means_in_turn (record {
+      view = broadcast_view B.Broadcast.cards B.Broadcast.crashed B.Broadcast.suspects B.Broadcast.wire B.Broadcast.work B.Broadcast.poster B.Broadcast.handed;
+      start = B.Broadcast.start;
+      posting = B.Broadcast.posting;
+      carrying = B.Broadcast.carrying;
+      losing = B.Broadcast.losing;
+      crashing = B.Broadcast.crashing;
+      suspecting = B.Broadcast.suspecting;
+    }) B.Broadcast.made B.Broadcast.bound B.Broadcast.meaning };
 
     fn new(heap: Global, count: usize) -> Result<InTurn<B>, AllocError> {
         let table = Table::new(heap)?;

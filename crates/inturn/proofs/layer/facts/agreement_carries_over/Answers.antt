@@ -1,6 +1,6 @@
 use Rattle.parts.specs.Shown.{shown}
 use Rattle.inturn.specs.Models.{layer_of}
-use Rattle.inturn.proofs.Layers.{agreement_over}
+use Rattle.inturn.specs.Means.{agreement_over}
 use Rattle.inturn.proofs.layer.facts.agreement_carries_over.Goals as goal
 
 pub returns : goal.returns

@@ -1,7 +1,7 @@
 use Rattle.std.proofs.Common.{sym, ◌∙◌}
 use Rattle.parts.specs.Shown.{shown}
 use Rattle.inturn.specs.Models.{layer_of}
-use Rattle.inturn.proofs.Layers.{in_order, counts_held, held_counts}
+use Rattle.inturn.specs.Means.{in_order, counts_held, held_counts}
 use Rattle.inturn.proofs.layer.facts.notes_count_in_order.Goals as goal
 
 pub returns : goal.returns

@@ -3,7 +3,7 @@ use Rattle.std.proofs.lemmas.List.{get_or_read}
 use Rattle.notes.specs.Models.{bits}
 use Rattle.inturn.specs.Models.{posts_of}
 use Rattle.inturn.specs.Turns.{post_of}
-use Rattle.inturn.proofs.Turns.{counted_more}
+use Rattle.inturn.specs.Counts.{counted_more}
 use Rattle.inturn.proofs.table.Table.count_next.Goals as goal
 
 pub returns-then-counts : goal.returns-then-counts

@@ -1,7 +1,7 @@
 use Rattle.std.proofs.Common.{rules}
 use Rattle.notes.specs.Models.{bits}
 use Rattle.inturn.specs.Models.{posts_of}
-use Rattle.inturn.proofs.Turns.{clear_more}
+use Rattle.inturn.specs.Counts.{clear_more}
 use Rattle.inturn.proofs.table.Table.counts.Goals as goal
 use Rattle.inturn.proofs.table.Table.counts.Goals.{then-clear, else-clear}
 

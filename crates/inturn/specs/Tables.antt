@@ -7,7 +7,7 @@ use Rattle.notes.proofs.Counting.{pigeonhole}
 use Rattle.inturn.specs.declared.post.Post.{Post}
 use Rattle.inturn.specs.Turns.{post_of, post_at, counts, in_turn, written}
 use Rattle.inturn.specs.Layers.{Agrees}
-use Rattle.inturn.proofs.Turns.{counted_place, place_counted, clear_each, clear_all, same_notes}
+use Rattle.inturn.specs.Counts.{counted_place, place_counted, clear_each, clear_all, same_notes}
 
 pub agrees_none : (poster : ℕ → Option ℕ) → ((m : ℕ) → poster m ≡ None) → Agrees poster []
 agrees_none poster none =

@@ -11,8 +11,8 @@ use Rattle.inturn.specs.declared.post.Post.{Post}
 use Rattle.inturn.specs.Turns.{post_of, post_at, in_turn, written}
 use Rattle.inturn.specs.Layers.{Layered, shown_in_turn, Agrees, HeldInTurn, InOrder, MadeInTurn}
 use Rattle.inturn.specs.Calls.{Behaviour, in_turn_over}
-use Rattle.inturn.proofs.Turns.{counted_place, place_counted, clear_all, earlier_counts, counted_held, in_turn_more, in_turn_none, in_turn_fits}
-use Rattle.inturn.proofs.Tables.{agrees_none, agrees_same, agrees_more, room_for_more, in_turn_new, in_turn_kept}
+use Rattle.inturn.specs.Counts.{counted_place, place_counted, clear_all, earlier_counts, counted_held, in_turn_more, in_turn_none, in_turn_fits}
+use Rattle.inturn.specs.Tables.{agrees_none, agrees_same, agrees_more, room_for_more, in_turn_new, in_turn_kept}
 
 -- What a behaviour means, with what is made and the bound.
 abbrev pub Means : {S : Type 0} → Behaviour S → (S → Type 0) → ℕ → Type 0
