@@ -3,7 +3,7 @@ use Rattle.spread.specs.Counts.{unrelayed}
 use Rattle.spread.proofs.Pairs.{unrelayed_new}
 use Rattle.spread.proofs.state.Spread.new.Goals as goal
 
-pub invariant-of-result : goal.invariant-of-result
-invariant-of-result c =
-    let wire = c.in-ok-wire.ensures in
+pub invariant_of-result : goal.invariant_of-result
+invariant_of-result c =
+    let wire = c.in_ok-wire.ensures in
     (omega (arith, ap length wire.0, wire.1, ap unrelayed c.new-3.ensures ∙ unrelayed_new), tt)

@@ -18,4 +18,4 @@ invariant_of-self-2 c =
     let f = post_accepted (posts_view (cards_of s.cards) (posters_of s.posters)) c.args.card c.args.note (sym c.in_default.ensures.answer) in
     let p : free_notes (posters_of c.post.new.self) ≡ _ = ap free_notes c.in_default.ensures.after in
     let one = one_less_free (posters_of s.posters) c.args.note c.args.card (omega (arith, s.posters.notes, f.2)) f.3 in
-    (omega (arith, one, c.announce.ensures.most, c.announce.ensures.room, s.cards.few, s.room), tt)
+    record { room = omega (arith, one, c.announce.ensures.most, c.announce.ensures.room, s.cards.few, s.room) }

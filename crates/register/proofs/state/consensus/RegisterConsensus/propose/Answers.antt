@@ -23,4 +23,4 @@ invariant_of-self-2 c =
     let r : c.args.card < length (get_or (ballots_of t) c.args.instance []) = omega (arith, ballots_row t c.args.instance f.3, s.cards.few, f.0) in
     let p : free_ballots (ballots_of c.propose.new.self) ≡ _ = ap free_ballots c.in_default.ensures.after in
     let one = one_less_ballot (ballots_of t) c.args.instance c.args.card (bits c.args.notes) (omega (arith, ballots_length t, f.3)) r f.2 in
-    (omega (arith, one, c.submit.ensures.one, c.submit.ensures.room, s.room), tt)
+    record { room = omega (arith, one, c.submit.ensures.one, c.submit.ensures.room, s.room) }
