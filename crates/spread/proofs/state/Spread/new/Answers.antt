@@ -6,4 +6,4 @@ use Rattle.spread.proofs.state.Spread.new.Goals as goal
 pub invariant_of-result : goal.invariant_of-result
 invariant_of-result c =
     let wire = c.in_ok-wire.ensures in
-    (omega (arith, ap length wire.0, wire.1, ap unrelayed c.new-3.ensures ∙ unrelayed_new), tt)
+    record { room = omega (arith, ap length wire.0, wire.1, ap unrelayed c.new-3.ensures ∙ unrelayed_new) }

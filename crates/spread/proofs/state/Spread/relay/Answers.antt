@@ -10,7 +10,7 @@ invariant_of-self c =
     let r = relay_room c.args.self.now c.args.card c.args.note c.requires in
     let e = ap length (c.send.ensures.tight r.0) in
     let u : unrelayed (card_sets_of c.add.new.self) ≡ _ = ap unrelayed c.add.ensures in
-    (omega (arith, r.1, c.send.ensures.room), tt)
+    record { room = omega (arith, r.1, c.send.ensures.room) }
 
 pub returns : goal.returns
 returns c =
