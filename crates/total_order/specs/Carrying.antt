@@ -1,13 +1,13 @@
 -- The carrier over any broadcast and any consensus: what each call answers and makes.
-use Rattle.std.specs.Prelude.{ℕ, ◌+◌, Bool, cond, ◌&&◌, List, [], length, replicate, is_some, Option, ◌==◌, nat_le, nat_lt, slice_index, slice_index_or, slice_set}
+use Rattle.std.specs.Prelude.{◌≡◌, ℕ, zero, suc, ◌+◌, Bool, true, false, cond, not, ◌&&◌, List, [], length, replicate, is_some, Some, None, Option, ◌==◌, nat_eq, nat_le, nat_lt, slice_index, slice_index_or, slice_set}
 use Rattle.notes.specs.Sets.{minus}
 use Rattle.parts.specs.Refusals.{post_answer, carry_answer, lose_answer, crash_answer, suspect_answer, propose_answer, acting_answer}
 use Rattle.parts.specs.Shown.{shown, told}
 use Rattle.parts.specs.declared.broadcast.Broadcast.{Ghosts as Broadcasts}
 use Rattle.parts.specs.declared.consensus.Consensus.{Ghosts as Consensuses}
-use Rattle.logs.specs.Orders.{number_in, appended, with_all}
-use Rattle.carrier_calls.specs.declared.call.Wire.{Wire}
-use Rattle.carrier_calls.specs.declared.call.Wire.TheVariants.{Broadcast, Consensus}
+use Rattle.logs.specs.Orders.{lowest_that, number_in, appended, with_all}
+use Rattle.total_order.specs.declared.call.Wire.{Wire}
+use Rattle.total_order.specs.declared.call.Wire.TheVariants.{Broadcast, Consensus}
 
 -- A broadcast, a consensus, the notes of the book in ranking order, for each of six cards a log and the instance that it has come to,
 -- and the count of steps since it was new.
@@ -34,8 +34,11 @@ cards_of cards notes = cond (nat_le notes 32 && nat_le cards 6) cards 0
 
 module _ {X Y : Type 0} (b : Broadcasts X) (c : Consensuses Y) where
   -- A new carrier: the number of cards, and the notes of the book in ranking order.
+  abbrev pub with_parts : b.State → c.State → List ℕ → Carrying b c
+  with_parts x y order = record { broadcast = x; consensus = y; order = order; logs = replicate 6 []; instances = replicate 6 0; steps = 0 }
+
   abbrev pub fresh : ℕ → List ℕ → Carrying b c
-  fresh cards order = record { broadcast = b.start cards; consensus = c.start cards; order = order; logs = replicate 6 []; instances = replicate 6 0; steps = 0 }
+  fresh cards order = with_parts (b.start cards) (c.start cards) order
 
   -- What an accepted call leaves, and what a refused one.
   abbrev pub if_accepted : {A : Type 0} → ℕ → A → A → A
@@ -48,11 +51,6 @@ module _ {X Y : Type 0} (b : Broadcasts X) (c : Consensuses Y) where
   -- An accepted step is counted.
   abbrev pub counted : Carrying b c → ℕ → ℕ
   counted s answer = if_accepted answer (one_more s.steps) s.steps
-
-  -- The senders of the items of a wire.
-  abbrev pub wire_on : Carrying b c → Wire → List ℕ
-  wire_on s Broadcast = b.wire s.broadcast
-  wire_on s Consensus = c.wire s.consensus
 
   -- How many cards have a log: in a run, all.
   abbrev pub card_count : Carrying b c → ℕ
@@ -147,9 +145,32 @@ module _ {X Y : Type 0} (b : Broadcasts X) (c : Consensuses Y) where
     };
   }
 
-  -- Whether take, and propose, would be accepted.
-  abbrev pub can_take : Carrying b c → ℕ → Bool
-  can_take s p = take_reply s p == 0
+  -- The lowest card that can take, and that can propose: whose call would not be refused.
+  unfoldable pub taker : Carrying b c → Option ℕ
+  taker s = lowest_that (λ p. nat_eq (take_reply s p) 0) (card_count s)
 
-  abbrev pub can_propose : Carrying b c → ℕ → Bool
-  can_propose s p = propose_reply s p == 0
+  unfoldable pub proposer : Carrying b c → Option ℕ
+  proposer s = lowest_that (λ p. nat_eq (propose_reply s p) 0) (card_count s)
+
+  -- At rest: both wires are empty, and at no card would take or propose be accepted.
+  unfoldable pub at_rest : Carrying b c → Bool
+  at_rest s = (length (b.wire s.broadcast) == 0 && length (c.wire s.consensus) == 0) && (not (is_some (taker s)) && not (is_some (proposer s)))
+
+  -- The first possible of: carry item 0 of the broadcast, carry item 0 of the consensus, take at the lowest card that can, propose at the lowest card that can.
+  abbrev pub take_or_propose : Carrying b c → Option ℕ → Option ℕ → Carrying b c
+  take_or_propose s (Some p) other = (taking s p).next
+  take_or_propose s None (Some q) = (proposing s q).next
+  take_or_propose s None None = s
+
+  unfoldable pub advanced : Carrying b c → Carrying b c
+  advanced s = cond (nat_lt 0 (length (b.wire s.broadcast))) (carrying s Broadcast 0).next
+      (cond (nat_lt 0 (length (c.wire s.consensus))) (carrying s Consensus 0).next (take_or_propose s (taker s) (proposer s)))
+
+  -- Settle: step by step until it is at rest or has made as many steps as the limit says. What it leaves, and how many steps it made.
+  unfoldable pub settled : ℕ → Carrying b c → Carrying b c
+  settled zero s = s
+  settled (suc n) s = cond (at_rest s) s (settled n (advanced s))
+
+  unfoldable pub settle_steps : ℕ → Carrying b c → ℕ
+  settle_steps zero s = 0
+  settle_steps (suc n) s = cond (at_rest s) 0 (suc (settle_steps n (advanced s)))

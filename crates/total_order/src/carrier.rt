@@ -17,6 +17,8 @@ pub struct Carrier<B, C> {
     ghost six_instances: { length instances ≡ 6 },
 }
 
+mod calling;
 mod cards;
 mod making;
 mod moves;
+mod settling;

@@ -1,18 +1,16 @@
 // What the carrier shows of its cards, and which of them can propose or take.
-ghost use Rattle.std.specs.Prelude.{◌≡◌, ℕ, ◌<◌, ◌≤◌, true, List, [], length, IfOk, Decides, ◌==◌};
+ghost use Rattle.std.specs.Prelude.{◌≡◌, ℕ, ◌<◌, ◌≤◌, true, List, [], IfOk, Decides};
 ghost use Rattle.notes.specs.Models.{bits};
 ghost use Rattle.parts.specs.Views.{Quiet};
-ghost use Rattle.parts.specs.Shown.{shown, told};
+ghost use Rattle.parts.specs.Shown.{shown};
 ghost use Rattle.parts.specs.Broadcasting.{UniformAgreement};
-ghost use Rattle.parts.specs.Refusals.{answered, propose_answer};
-ghost use Rattle.notes.specs.Sets.{minus};
-ghost use Rattle.logs.specs.Orders.{number_in, with_all};
+ghost use Rattle.parts.specs.Refusals.{answered};
+ghost use Rattle.logs.specs.Orders.{number_in};
 ghost use Rattle.logs.specs.Models.{list_of};
-ghost use Rattle.total_order.specs.Carrying.{card_count, wire_on, log_at, instance_at, decision_at, waiting, take_reply, can_take, can_propose};
+ghost use Rattle.total_order.specs.Carrying.{card_count, log_at, instance_at, decision_at, waiting, propose_reply, take_reply};
 ghost use Rattle.total_order.specs.Models.{model};
 
 use super::Carrier;
-use carrier_calls::call::Wire;
 use logs::log::Log;
 use notes::set::NoteSet;
 use parts::broadcast::Broadcast;
@@ -42,10 +40,10 @@ impl<B: Broadcast, C: Consensus> Carrier<B, C> {
         ensures { result.now ≡ log_at B.Broadcast C.Consensus (model B.Broadcast C.Consensus self.now) card }
     {
         if card < 6 {
-            return self.log_at(card).as_slice();
+            self.logs[card].as_slice()
+        } else {
+            &[]
         }
-        self.no_log_beyond(card);
-        &[]
     }
 
     // The instance that a card has come to.
@@ -62,39 +60,34 @@ impl<B: Broadcast, C: Consensus> Carrier<B, C> {
         self.steps
     }
 
-    // How many items are on a wire.
-    pub fn wire_len(&self, wire: Wire) -> usize
-        ensures { result ≡ length (wire_on B.Broadcast C.Consensus (model B.Broadcast C.Consensus self.now) wire) }
-    {
-        match wire {
-            Wire::Broadcast => self.broadcast.wire_len(),
-            Wire::Consensus => self.consensus.wire_len(),
-        }
-    }
-
-    // Whether take would be accepted.
-    pub fn can_take(&self, card: usize) -> bool
-        ensures { result ≡ can_take B.Broadcast C.Consensus (model B.Broadcast C.Consensus self.now) card }
-    {
-        self.decision(card).is_ok()
-    }
-
-    // Whether propose would be accepted.
-    pub fn can_propose(&self, card: usize) -> bool
-        ensures { result ≡ can_propose B.Broadcast C.Consensus (model B.Broadcast C.Consensus self.now) card }
-    {
-        card < self.card_count() && self.accepts(self.instance(card), card, self.waiting(card))
-    }
-
     // The notes handed to a card that are not in its log.
     pub(crate) fn waiting(&self, card: usize) -> NoteSet
         requires { card < 6 }
         ensures { bits result ≡ waiting B.Broadcast C.Consensus (model B.Broadcast C.Consensus self.now) card }
     {
-        self.waiting_is(card);
         self.broadcast
             .handed_to(card)
-            .without(self.log_at(card).notes())
+            .without(self.logs[card].notes())
+    }
+
+    // Whether propose would be accepted.
+    pub(crate) fn may_propose(&self, card: usize) -> Result<(), Refusal>
+        ensures { answered result ≡ propose_reply B.Broadcast C.Consensus (model B.Broadcast C.Consensus self.now) card }
+    {
+        if card >= self.card_count() || card >= self.consensus.card_count() {
+            return Err(Refusal::NoSuchCard);
+        }
+        if self.consensus.has_crashed(card) {
+            return Err(Refusal::CardCrashed);
+        }
+        let instance = self.instance(card);
+        if self.consensus.proposal_of(instance, card).is_some() {
+            return Err(Refusal::AlreadyProposed);
+        }
+        if instance >= 32 || self.waiting(card).is_empty() {
+            return Err(Refusal::NothingToPropose);
+        }
+        Ok(())
     }
 
     // The decision that take would take.
@@ -105,7 +98,7 @@ impl<B: Broadcast, C: Consensus> Carrier<B, C> {
         if card >= self.card_count() {
             return Err(Refusal::NoSuchCard);
         }
-        if self.has_crashed(card) {
+        if self.broadcast.has_crashed(card) {
             return Err(Refusal::CardCrashed);
         }
         match self.consensus.decision_of(self.instance(card), card) {
@@ -113,32 +106,6 @@ impl<B: Broadcast, C: Consensus> Carrier<B, C> {
             None => Err(Refusal::NothingDecided),
         }
     }
-
-    // Whether the consensus would accept a proposal.
-    fn accepts(&self, instance: usize, card: usize, notes: NoteSet) -> bool
-        ensures { result ≡ (propose_answer (told C.Consensus (model B.Broadcast C.Consensus self.now).consensus) instance card (bits notes) == 0) }
-    {
-        let runs = card < self.consensus.card_count() && !self.consensus.has_crashed(card);
-        let open = instance < 32 && self.consensus.proposal_of(instance, card).is_none();
-        runs && open && !notes.is_empty()
-    }
-
-    // The log of one of six cards.
-    fn log_at(&self, card: usize) -> &Log
-        requires { card < 6 }
-        ensures { list_of result.now ≡ log_at B.Broadcast C.Consensus (model B.Broadcast C.Consensus self.now) card }
-    {
-        &self.logs[card]
-    }
-
-    // Two facts, and nothing to do.
-    fn no_log_beyond(&self, card: usize)
-        ensures { 6 ≤ card → log_at B.Broadcast C.Consensus (model B.Broadcast C.Consensus self.now) card ≡ [] }
-    {}
-
-    fn waiting_is(&self, card: usize)
-        ensures { waiting B.Broadcast C.Consensus (model B.Broadcast C.Consensus self.now) card ≡ minus (B.Broadcast.handed (model B.Broadcast C.Consensus self.now).broadcast card) (with_all 0 (log_at B.Broadcast C.Consensus (model B.Broadcast C.Consensus self.now) card)) }
-    {}
 }
 
 impl<B: Uniform, C: Consensus> Carrier<B, C> {

@@ -1,6 +1,7 @@
 ghost use Rattle.std.specs.Prelude.{◌≡◌, ℕ, length, IfOk};
 ghost use Rattle.logs.specs.Orders.{in_ranking_order, RankingOrder};
-ghost use Rattle.total_order.specs.Carrying.{fresh, cards_of};
+ghost use Rattle.total_order.specs.Carrying.{with_parts, fresh, cards_of};
+ghost use Rattle.logs.specs.Models.{order_of};
 ghost use Rattle.total_order.specs.Models.{model};
 
 use super::Carrier;
@@ -20,14 +21,22 @@ impl<B: Broadcast + Drop, C: Consensus + Drop> Carrier<B, C> {
         let count = card_count(cards, book.len());
         let broadcast = B::new(heap, count)?;
         let consensus = C::new(heap, count)?;
-        Ok(Carrier {
+        Ok(Carrier::with_parts(broadcast, consensus, Ranking::new(book)))
+    }
+}
+
+impl<B: Broadcast, C: Consensus> Carrier<B, C> {
+    fn with_parts(broadcast: B, consensus: C, ranking: Ranking) -> Self
+        ensures { model B.Broadcast C.Consensus result ≡ with_parts B.Broadcast C.Consensus (B.Broadcast.state broadcast) (C.Consensus.state consensus) (order_of ranking) }
+    {
+        Carrier {
             broadcast,
             consensus,
-            ranking: Ranking::new(book),
+            ranking,
             logs: [Log::new(); 6],
             instances: [0; 6],
             steps: 0,
-        })
+        }
     }
 }
 

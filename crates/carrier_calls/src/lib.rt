@@ -1,2 +1,0 @@
-// Calls on a carrier as values, and their answers.
-pub mod call;

@@ -1,0 +1,40 @@
+// Calls on a carrier as values, and their answers.
+use parts::refusal::Refusal;
+
+// The wire that an item is on.
+#[derive(Clone, Copy, PartialEq, Eq, Debug)]
+pub enum Wire {
+    Broadcast,
+    Consensus,
+}
+
+#[derive(Clone, Copy, PartialEq, Eq, Debug)]
+pub enum Call {
+    // A card posts a note: the card, then the note.
+    Post(usize, usize),
+    // An item of a wire arrives.
+    Carry(Wire, usize),
+    // An item of a wire is lost, as only those of crashed senders are.
+    Lose(Wire, usize),
+    Crash(usize),
+    // The first card suspects the second.
+    Suspect(usize, usize),
+    Propose(usize),
+    Take(usize),
+    // Settle, with at most so many steps.
+    Settle(usize),
+}
+
+// What settle did: how many steps it made, and whether the carrier was then at rest.
+#[derive(Clone, Copy, PartialEq, Eq, Debug)]
+pub struct Settling {
+    pub steps: usize,
+    pub at_rest: bool,
+}
+
+#[derive(Clone, Copy, PartialEq, Eq, Debug)]
+pub enum Answer {
+    Accepted,
+    Refused(Refusal),
+    Settled(Settling),
+}
