@@ -13,14 +13,12 @@ use Rattle.order.specs.Words.{sum, one_if, step_bound}
 use Rattle.order.specs.Views.{posts}
 use Rattle.order.proofs.Lists.{sum_le}
 use Rattle.order.proofs.Facts.{within_bound}
-use Rattle.total_order.specs.Carrying.{Carrying, Reply, one_more, if_accepted, moved, counted, card_count, log_at, instance_at, decision_at, waiting, post_reply, posting, carrying, losing, crashing, suspecting, propose_reply, proposing, take_reply, taking}
-use Rattle.settling.specs.Settling.{taker, proposer, at_rest, take_or_propose, advanced, settled, settle_steps}
-use Rattle.carrier_calls.specs.Told.{Told, told_by}
-use Rattle.settling.specs.Calls.{Outcome, outcome, calling}
-use Rattle.carrier_calls.specs.declared.call.Call.{Call}
-use Rattle.carrier_calls.specs.declared.call.Call.TheVariants.{Post, Carry, Lose, Crash, Suspect, Propose, Take, Settle}
-use Rattle.carrier_calls.specs.declared.call.Wire.{Wire}
-use Rattle.carrier_calls.specs.declared.call.Wire.TheVariants.{Broadcast, Consensus}
+use Rattle.total_order.specs.Carrying.{Carrying, Reply, one_more, if_accepted, moved, counted, card_count, log_at, instance_at, decision_at, waiting, post_reply, posting, carrying, losing, crashing, suspecting, propose_reply, proposing, take_reply, taking, taker, proposer, at_rest, take_or_propose, advanced, settled, settle_steps}
+use Rattle.total_order.specs.Calls.{Told, told_by, Outcome, outcome, calling}
+use Rattle.total_order.specs.declared.call.Call.{Call}
+use Rattle.total_order.specs.declared.call.Call.TheVariants.{Post, Carry, Lose, Crash, Suspect, Propose, Take, Settle}
+use Rattle.total_order.specs.declared.call.Wire.{Wire}
+use Rattle.total_order.specs.declared.call.Wire.TheVariants.{Broadcast, Consensus}
 use Rattle.runs.specs.Runs.{left_by, answers_to}
 use Rattle.runs.specs.Tally.{Tally, with_steps, with_post, with_crash, with_suspicion, with_call, with_calls}
 use Rattle.runs.proofs.Good.{Means, Good, LB, LC, R, step_counted, count_is, good_post, good_carry_broadcast, good_carry_consensus, good_lose_broadcast, good_lose_consensus, good_crash, good_suspect, good_propose, good_take, crash_both, suspect_both}
@@ -299,6 +297,7 @@ module _ {X Y : Type 0} (b : Broadcasts X) (c : Consensuses Y) (M : Means b c) (
 
   fits_call : (t : Tally) (s : Carrying b c) (k : Call) → Fits b c n t s
       → Fits b c n (cond (eqb (calling b c s k).tells.refusal 0) (with_call k (calling b c s k).tells t) t) (calling b c s k).leaves
+  unfolding calling
   fits_call t s (Post p m) F = fits_post t s F p m
   fits_call t s (Carry w i) F = fits_carry t s F w i
   fits_call t s (Lose w i) F = fits_lose t s F w i

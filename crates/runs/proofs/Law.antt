@@ -16,9 +16,8 @@ use Rattle.order.specs.Words.{In, among, sum, one_if}
 use Rattle.order.specs.Views.{posts, Rest}
 use Rattle.order.specs.Law as order
 use Rattle.order.proofs.Facts.{one_order}
-use Rattle.total_order.specs.Carrying.{Carrying, fresh, cards_of, card_count, log_at, instance_at, decision_at, waiting, propose_reply, take_reply}
-use Rattle.settling.specs.Settling.{taker, proposer, at_rest}
-use Rattle.carrier_calls.specs.declared.call.Call.{Call}
+use Rattle.total_order.specs.Carrying.{Carrying, fresh, cards_of, card_count, log_at, instance_at, decision_at, waiting, propose_reply, take_reply, taker, proposer, at_rest}
+use Rattle.total_order.specs.declared.call.Call.{Call}
 use Rattle.runs.specs.Runs.{left_by, answers_to}
 use Rattle.runs.specs.Tally.{Tally, nothing, tally}
 use Rattle.runs.specs.Law.{Running, AllCrashesSuspected, NoGuardBites, OneOrder}

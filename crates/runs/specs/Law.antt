@@ -8,8 +8,7 @@ use Rattle.parts.specs.Shown.{shown, told}
 use Rattle.parts.specs.declared.broadcast.Broadcast.{Ghosts as Broadcasts}
 use Rattle.parts.specs.declared.consensus.Consensus.{Ghosts as Consensuses}
 use Rattle.order.specs.Words.{among, NoneTwice, Begins, step_bound}
-use Rattle.total_order.specs.Carrying.{Carrying, log_at, instance_at, decision_at, waiting}
-use Rattle.settling.specs.Settling.{at_rest, settled}
+use Rattle.total_order.specs.Carrying.{Carrying, log_at, instance_at, decision_at, waiting, at_rest, settled}
 use Rattle.runs.specs.Tally.{Tally}
 
 -- Card p is one of n, and no accepted call made it crash.

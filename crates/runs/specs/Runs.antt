@@ -3,9 +3,8 @@ use Rattle.std.specs.Prelude.{List, [], ◌∷◌}
 use Rattle.parts.specs.declared.broadcast.Broadcast.{Ghosts as Broadcasts}
 use Rattle.parts.specs.declared.consensus.Consensus.{Ghosts as Consensuses}
 use Rattle.total_order.specs.Carrying.{Carrying}
-use Rattle.carrier_calls.specs.Told.{Told}
-use Rattle.settling.specs.Calls.{calling}
-use Rattle.carrier_calls.specs.declared.call.Call.{Call}
+use Rattle.total_order.specs.Calls.{Told, calling}
+use Rattle.total_order.specs.declared.call.Call.{Call}
 
 module _ {X Y : Type 0} (b : Broadcasts X) (c : Consensuses Y) where
   unfoldable pub left_by : Carrying b c → List Call → Carrying b c

@@ -1,9 +1,9 @@
 -- What a list of calls and its answers tell: who posted which note, which cards have crashed, who suspects whom, and how many posts and
 -- steps there were. Only accepted calls count.
 use Rattle.std.specs.Prelude.{ℕ, ◌+◌, Bool, true, false, cond, ◌&&◌, ◌||◌, List, [], ◌∷◌, Some, None, Option, ◌==◌}
-use Rattle.carrier_calls.specs.Told.{Told}
-use Rattle.carrier_calls.specs.declared.call.Call.{Call}
-use Rattle.carrier_calls.specs.declared.call.Call.TheVariants.{Post, Carry, Lose, Crash, Suspect, Propose, Take, Settle}
+use Rattle.total_order.specs.Calls.{Told}
+use Rattle.total_order.specs.declared.call.Call.{Call}
+use Rattle.total_order.specs.declared.call.Call.TheVariants.{Post, Carry, Lose, Crash, Suspect, Propose, Take, Settle}
 
 pub record Tally : Type 0 where
   pub poster : ℕ → Option ℕ
