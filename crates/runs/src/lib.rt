@@ -1,8 +1,9 @@
 // Runs: a list of calls on a new carrier. Whatever the broadcast, the consensus and the calls, the cards log the notes in one order.
-ghost use Rattle.std.specs.Prelude.{◌≡◌, ℕ, ◌≤◌, List, map, length, IfOk, Decides};
+ghost use Rattle.std.specs.Prelude.{◌≡◌, ℕ, ◌+◌, ◌<◌, ◌≤◌, true, List, [], ◌∷◌, ◌++◌, map, length, IfOk, vec_len, vec_capacity, Decides, OnOk};
 ghost use Rattle.parts.specs.Views.{Quiet};
 ghost use Rattle.parts.specs.Shown.{shown};
-ghost use Rattle.logs.specs.Orders.{in_ranking_order};
+ghost use Rattle.parts.specs.Broadcasting.{UniformAgreement};
+ghost use Rattle.logs.specs.Orders.{in_ranking_order, RankingOrder};
 ghost use Rattle.total_order.specs.Carrying.{fresh, cards_of};
 ghost use Rattle.total_order.specs.Calls.{told_of};
 ghost use Rattle.total_order.specs.Models.{model};
@@ -10,12 +11,12 @@ ghost use Rattle.runs.specs.Runs.{left_by, answers_to};
 ghost use Rattle.runs.specs.Tally.{tally};
 ghost use Rattle.runs.specs.Law.{OneOrder, CrashedLogsBeginRunningOnes};
 
+use total_order::call::{Answer, Call};
 use notes::kind::Kind;
 use parts::broadcast::Broadcast;
 use parts::consensus::Consensus;
 use parts::uniform::Uniform;
 use std::alloc::{AllocError, Global};
-use total_order::call::{Answer, Call};
 use total_order::carrier::Carrier;
 
 // The carrier that the calls leave, and what each of them answered.
@@ -38,11 +39,11 @@ pub fn run<K: Kind, B: Broadcast + Drop, C: Consensus + Drop>(
     ensures order { IfOk result (λ k. OneOrder B.Broadcast C.Consensus (cards_of cards (length book.now)) (tally calls.now (map told_of k.answers.items)) (model B.Broadcast C.Consensus k.carrier)) }
 {
     let mut answers = Vec::with_capacity(heap, calls.len())?;
-    let mut carrier = Carrier::new(heap, cards, book)?;
-    for call in calls {
-        answers.push_reserved(carrier.call(*call));
-    }
-    Ok(RunEnd { carrier, answers })
+    let mut carrier = new_carrier::<K, B, C>(heap, cards, book)?;
+    make_calls(&mut carrier, calls, &mut answers);
+    let end = RunEnd { carrier, answers };
+    order_law::<K, B, C>(cards, book, calls, &end);
+    Ok(end)
 }
 
 // A run over a uniform broadcast, and whether that is quiet in the end.
@@ -68,5 +69,78 @@ pub fn run_uniform<K: Kind, B: Uniform + Drop, C: Consensus + Drop>(
 {
     let run = run::<K, B, C>(heap, cards, book, calls)?;
     let quiet = run.carrier.is_quiet();
+    crashed_logs_law::<K, B, C>(cards, book, calls, &run, quiet);
     Ok(UniformEnd { run, quiet })
 }
+
+// A new carrier; and its book has a ranking order.
+fn new_carrier<K: Kind, B: Broadcast + Drop, C: Consensus + Drop>(
+    heap: Global,
+    cards: usize,
+    book: &[K],
+) -> Result<Carrier<B, C>, AllocError>
+    ensures fresh { IfOk result (λ k. model B.Broadcast C.Consensus k ≡ fresh B.Broadcast C.Consensus (cards_of cards (length book.now)) (in_ranking_order K.Kind.precedes book.now)) }
+    ensures ranked { OnOk result (RankingOrder K.Kind.precedes book.now (in_ranking_order K.Kind.precedes book.now)) }
+{
+    Carrier::new(heap, cards, book)
+}
+
+// Makes the calls, one after the other, and keeps what each answered.
+fn make_calls<B: Broadcast, C: Consensus>(
+    carrier: &mut Carrier<B, C>,
+    calls: &[Call],
+    answers: &mut Vec<Answer>,
+)
+    requires none { answers.old.items ≡ [] }
+    requires empty { vec_len answers.old ≡ 0 }
+    requires room { length calls.now ≤ vec_capacity answers.old }
+    ensures carrier { model B.Broadcast C.Consensus carrier.new ≡ left_by B.Broadcast C.Consensus (model B.Broadcast C.Consensus carrier.old) calls.now }
+    ensures answers { map told_of answers.new.items ≡ answers_to B.Broadcast C.Consensus (model B.Broadcast C.Consensus carrier.old) calls.now }
+{
+    for call in calls {
+        make_call(carrier, *call, answers);
+    }
+}
+
+fn make_call<B: Broadcast, C: Consensus>(
+    carrier: &mut Carrier<B, C>,
+    call: Call,
+    answers: &mut Vec<Answer>,
+)
+    requires { vec_len answers.old < vec_capacity answers.old }
+    ensures carrier { model B.Broadcast C.Consensus carrier.new ≡ left_by B.Broadcast C.Consensus (model B.Broadcast C.Consensus carrier.old) (call ∷ []) }
+    ensures answers { map told_of answers.new.items ≡ map told_of answers.old.items ++ answers_to B.Broadcast C.Consensus (model B.Broadcast C.Consensus carrier.old) (call ∷ []) }
+    ensures len { vec_len answers.new ≡ vec_len answers.old + 1 }
+    ensures capacity { vec_capacity answers.new ≡ vec_capacity answers.old }
+{
+    answers.push_reserved(carrier.call(call));
+}
+
+// The order law, of the end of any run. This function does nothing: it states the law.
+fn order_law<K: Kind, B: Broadcast, C: Consensus>(
+    cards: usize,
+    book: &[K],
+    calls: &[Call],
+    end: &RunEnd<B, C>,
+)
+    requires ranked { RankingOrder K.Kind.precedes book.now (in_ranking_order K.Kind.precedes book.now) }
+    requires carrier { model B.Broadcast C.Consensus end.now.carrier ≡ left_by B.Broadcast C.Consensus (fresh B.Broadcast C.Consensus (cards_of cards (length book.now)) (in_ranking_order K.Kind.precedes book.now)) calls.now }
+    requires answers { map told_of end.now.answers.items ≡ answers_to B.Broadcast C.Consensus (fresh B.Broadcast C.Consensus (cards_of cards (length book.now)) (in_ranking_order K.Kind.precedes book.now)) calls.now }
+    ensures made { B.Broadcast.made (model B.Broadcast C.Consensus end.now.carrier).broadcast }
+    ensures order { OneOrder B.Broadcast C.Consensus (cards_of cards (length book.now)) (tally calls.now (map told_of end.now.answers.items)) (model B.Broadcast C.Consensus end.now.carrier) }
+{}
+
+// At rest under full suspicion the broadcast is quiet, so the question is answered yes, and its promise holds. This, too, does nothing.
+fn crashed_logs_law<K: Kind, B: Uniform, C: Consensus>(
+    cards: usize,
+    book: &[K],
+    calls: &[Call],
+    end: &RunEnd<B, C>,
+    quiet: bool,
+)
+    requires made { B.Broadcast.made (model B.Broadcast C.Consensus end.now.carrier).broadcast }
+    requires order { OneOrder B.Broadcast C.Consensus (cards_of cards (length book.now)) (tally calls.now (map told_of end.now.answers.items)) (model B.Broadcast C.Consensus end.now.carrier) }
+    requires answer { Decides quiet (Quiet (shown B.Broadcast (model B.Broadcast C.Consensus end.now.carrier).broadcast).net) }
+    requires agreed { quiet ≡ true → B.Broadcast.made (model B.Broadcast C.Consensus end.now.carrier).broadcast → UniformAgreement (shown B.Broadcast (model B.Broadcast C.Consensus end.now.carrier).broadcast) }
+    ensures { CrashedLogsBeginRunningOnes B.Broadcast C.Consensus (cards_of cards (length book.now)) (tally calls.now (map told_of end.now.answers.items)) (model B.Broadcast C.Consensus end.now.carrier) }
+{}

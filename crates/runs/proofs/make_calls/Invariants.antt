@@ -2,7 +2,7 @@ use Rattle.std.proofs.Common.{◌≡◌, ◌+◌, ◌≤◌, ◌++◌, map, leng
 use Rattle.total_order.specs.Calls.{told_of}
 use Rattle.total_order.specs.Models.{model}
 use Rattle.runs.specs.Runs.{left_by, answers_to}
-use Rattle.runs.proofs.run.Given as goal
+use Rattle.runs.proofs.make_calls.Given as goal
 
 -- What is left of the calls leads to the same carrier, and brings the other answers, for which there is room.
 abbrev pub invariant-loop-call : goal.invariant-loop-call
