@@ -1,6 +1,6 @@
 -- Agreement and validity, from the history alone.
-use Rattle.std.proofs.Common.{◌≡◌, ℕ, zero, suc, ◌+◌, ◌<◌, ◌≤◌, Bool, true, false, ◌&&◌, ◌||◌, leb, ◌⊎◌, sym, refl, ◌∙◌, subst, inl, inr, arith}
-use Rattle.std.proofs.lemmas.Bool.{cases_eq, cases_Bool, both_ways, leb-true, le-leb, and_parts, and_from, or_cases, or_left, or_right}
+use Rattle.std.proofs.Common.{◌≡◌, ℕ, zero, suc, ◌<◌, ◌≤◌, Bool, true, false, ◌&&◌, ◌||◌, leb, sym, refl, ◌∙◌, subst, inl, inr, arith}
+use Rattle.std.proofs.lemmas.Bool.{cases_eq, cases_Bool, both_ways, le-leb, and_parts, and_from, or_cases, or_left, or_right}
 use Rattle.notes.specs.Sets.{how_many}
 use Rattle.notes.proofs.Counting.{count_lt, count_short}
 use Rattle.histories.specs.Histories.{Past, Fates, Left, Heard, History, Agreement, Validity, OwnKnown}

@@ -1,7 +1,7 @@
 -- What a card has heard in a round that it has left is what it knew on entering the next.
 use Rattle.std.proofs.Common.{◌≡◌, ℕ, suc, Bool, true, false, ◌&&◌, sym, refl}
 use Rattle.std.proofs.lemmas.Bool.{and_parts, and_from}
-use Rattle.histories.specs.Histories.{Past, Fates, Left, Heard, History}
+use Rattle.histories.specs.Histories.{Past, Fates, Left, History}
 use Rattle.histories.specs.Moves.{heard_of}
 use Rattle.histories.proofs.Puts.{any_decides}
 

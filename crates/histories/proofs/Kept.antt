@@ -1,9 +1,9 @@
 -- Every move keeps a history one. What the moves have in common is a step; a step keeps each part of a history.
-use Rattle.std.proofs.Common.{◌≡◌, ℕ, zero, suc, ◌<◌, ◌≤◌, Bool, true, false, ◌&&◌, eqb, ◌⊎◌, sym, refl, ap, ◌∙◌, subst, inl, inr, ⊎_elim, arith}
+use Rattle.std.proofs.Common.{◌≡◌, ℕ, suc, ◌<◌, ◌≤◌, true, false, ◌&&◌, eqb, ◌⊎◌, sym, refl, ap, ◌∙◌, subst, inl, inr, ⊎_elim, arith}
 use Rattle.std.proofs.lemmas.Bool.{cases_Bool, both_ways, cases_lt, eqb-true, eq-eqb, and_parts, and_from}
-use Rattle.histories.specs.Histories.{Past, Fates, Left, Heard, Met, History}
+use Rattle.histories.specs.Histories.{Past, Fates, Left, Heard, History}
 use Rattle.histories.specs.Moves.{put, heard_of, beginning, proposing, counting, passing, MayPropose, MayCount, MayPass, Later, MovesMakeHistories}
-use Rattle.histories.proofs.Puts.{at_put, at_row, put_same, row_same, any_decides}
+use Rattle.histories.proofs.Puts.{at_put, at_row, row_same, any_decides}
 
 -- p counts y: p runs, is in that round, does not suspect y, and y has entered the round.
 record Counts (n : ℕ) (f : Fates) (h : Past) (p r y : ℕ) : Type 0 where

@@ -1,4 +1,6 @@
 // Histories of flooding: what each card knew and whom it counted, round by round, and why decisions agree.
+#![tactic(auto)]
+
 ghost use Rattle.std.specs.Prelude.{◌≡◌};
 ghost use Rattle.histories.specs.Histories.{Agreement, Validity, OwnKnown};
 ghost use Rattle.histories.specs.Moves.{MovesMakeHistories};

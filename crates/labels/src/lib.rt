@@ -1,4 +1,6 @@
 // Labels: the names that a maker prints on a memory card. A label borrows its bytes from the text that it was read from.
+#![tactic(auto)]
+
 ghost use Rattle.std.specs.Prelude.{◌≡◌, true, if◌then◌else◌, Some, None};
 ghost use Rattle.std.specs.Option.{option_map};
 ghost use Rattle.labels.specs.Order.{is_label, printable, all_printable, label_before};

@@ -1,5 +1,5 @@
 -- Sets of notes as numbers: bit m of the number stands for note m.
-use Rattle.std.specs.Prelude.{ℕ, zero, suc, ◌+◌, ◌/◌, ◌%◌, ◌^◌, Bool, true, false, cond, Some, None, Option, ◌==◌, bit_and, bit_or, bit_xor, nat_lt}
+use Rattle.std.specs.Prelude.{ℕ, zero, suc, ◌+◌, ◌/◌, ◌%◌, ◌^◌, Bool, cond, Some, None, Option, ◌==◌, bit_and, bit_or, bit_xor, nat_lt}
 use Rattle.std.specs.Int.Count.{count_trailing_zeros}
 
 -- Whether the set s holds the note m.

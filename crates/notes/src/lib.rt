@@ -1,3 +1,5 @@
+#![tactic(auto)]
+
 pub mod kind;
 pub mod label;
 pub mod ranking;

@@ -1,5 +1,5 @@
 -- What an accepted call says of its arguments, and where it leads.
-use Rattle.std.proofs.Common.{◌≡◌, ℕ, ◌<◌, Bool, true, false, cond, eqb, length, get_or, is_some, ap, ◌∙◌, arith}
+use Rattle.std.proofs.Common.{◌≡◌, ℕ, ◌<◌, true, false, cond, eqb, length, get_or, is_some, ap, ◌∙◌, arith}
 use Rattle.std.proofs.lemmas.Bool.Decides.{nat_tests}
 use Rattle.parts.specs.Views.{Net, BroadcastView, ConsensusView}
 use Rattle.parts.specs.Refusals.{post_answer, propose_answer, carry_answer, lose_answer, crash_answer, suspect_answer}

@@ -1,4 +1,6 @@
 // The interfaces of broadcast and consensus: what each call answers and makes, and what is certain of it.
+#![tactic(auto)]
+
 pub mod broadcast;
 pub mod consensus;
 pub mod refusal;

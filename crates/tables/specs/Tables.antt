@@ -1,5 +1,5 @@
 -- The tables of the parts: who posted each note, a set of notes for each card, and a proposal or decision by instance and card.
-use Rattle.std.specs.Prelude.{ℕ, ◌+◌, List, [], ◌∷◌, map, set, replicate, Some, None, Option, bit_or, slice_index, slice_index_or, slice_set}
+use Rattle.std.specs.Prelude.{ℕ, ◌+◌, List, [], ◌∷◌, map, replicate, Some, None, Option, bit_or, slice_index, slice_index_or, slice_set}
 use Rattle.std.specs.Option.{option_map}
 use Rattle.notes.specs.Models.{bits}
 use Rattle.notes.specs.Sets.{added}

@@ -7,7 +7,7 @@ use Rattle.std.proofs.lemmas.Bool.Decides.{nat_tests}
 use Rattle.parts.specs.Nets.{PartOf}
 use Rattle.parts.specs.Nets.PartOf.{none, stays, leaves}
 use Rattle.cards.specs.Cards.{CardState}
-use Rattle.wire.specs.Wires.{item, senders, goes_to, sent, any_of}
+use Rattle.wire.specs.Wires.{item, goes_to, sent, any_of}
 use Rattle.wire.specs.declared.Item.{Item}
 
 -- All items.
