@@ -11,7 +11,8 @@ use Rattle.histories.specs.Histories.{Past, History}
 use Rattle.flooding.specs.Seats.{SeatState, seat_in}
 use Rattle.flooding.specs.Mail.{LoadState}
 use Rattle.flooding.specs.Flooding.{FloodingState, proposal_of}
-use Rattle.flooding.specs.Made.{Shaped, fates_of, Stands, TrueOf, brings, Tied, Underway, SoundFlooding}
+use Rattle.flooding.specs.Made.{Shaped, fates_of, brings, Underway}
+use Rattle.flooding.specs.Sound.{Stands, SaysIn, TiedSeats, SoundFlooding}
 use Rattle.flooding.specs.Pasts.{Further, round_grows}
 use Rattle.flooding.specs.Sits.{seated_stays, trues_stay}
 
@@ -27,7 +28,7 @@ abbrev pub after : FloodingState → List (List (Option ℕ)) → List (List (Op
 after x t d ss w = record { cards = x.cards; proposals = t; decisions = d; seats = ss; wire = w; kept = x.kept }
 
 -- Card q acts in instance k and comes to stage r with the history l.
-pub record Action (x : FloodingState) (t d : List (List (Option ℕ))) (ss : List (List SeatState)) (w : List (Item LoadState)) (k q r : ℕ) (g : Tied x k) (l : Past) : Type 0 where
+pub record Action (x : FloodingState) (t d : List (List (Option ℕ))) (ss : List (List SeatState)) (w : List (Item LoadState)) (k q r : ℕ) (g : TiedSeats x k) (l : Past) : Type 0 where
   pub seats_stay : (j p : ℕ) → Elsewhere k q j p → seat_in ss j p ≡ seat_in x.seats j p
   pub decisions_stay : (j p : ℕ) → Elsewhere k q j p → ballot_in d j p ≡ ballot_in x.decisions j p
   pub proposals_stay : (j p : ℕ) → Elsewhere k q j p → ballot_in t j p ≡ ballot_in x.proposals j p
@@ -36,14 +37,14 @@ pub record Action (x : FloodingState) (t d : List (List (Option ℕ))) (ss : Lis
   pub moved : Further g.past l q r
   pub stands : Stands x.cards.count l t k q (ballot_in d k q) (seat_in ss k q)
   pub items : All (Underway x.cards) w
-  pub wire_true : All (TrueOf x.cards.count l k) w
-  pub wire_others : (j : ℕ) → (j ≢ k) → (o : Tied x j) → All (TrueOf x.cards.count o.past j) w
+  pub wire_true : All (SaysIn x.cards.count l k) w
+  pub wire_others : (j : ℕ) → (j ≢ k) → (o : TiedSeats x j) → All (SaysIn x.cards.count o.past j) w
   pub wire_stays : (j s a b : ℕ) → any_of (brings j s a b) x.wire ≡ true → any_of (brings j s a b) w ≡ true
   -- on entering a round it sends to all, and takes in what was kept
   pub sent : g.past.round q < r → r ≤ x.cards.count → (b : ℕ) → b < x.cards.count → (b ≢ q) → crashed_in x.cards b ≡ false → any_of (brings k r q b) w ≡ true
   pub taken : g.past.round q < r → r ≤ x.cards.count → (a : ℕ) → a < x.cards.count → crashed_in x.cards a ≡ false → any_of (brings k r a q) x.kept ≡ true → l.counted q r a ≡ true
 
-module _ (x : FloodingState) (t d : List (List (Option ℕ))) (ss : List (List SeatState)) (w : List (Item LoadState)) (k q r : ℕ) (g : Tied x k) (l : Past) (a : Action x t d ss w k q r g l) where
+module _ (x : FloodingState) (t d : List (List (Option ℕ))) (ss : List (List SeatState)) (w : List (Item LoadState)) (k q r : ℕ) (g : TiedSeats x k) (l : Past) (a : Action x t d ss w k q r g l) where
   proposal_grows : (j s : ℕ) (o : Option ℕ) → proposal_of x.proposals j o ≡ Some s → proposal_of t j o ≡ Some s
   proposal_grows j s None e = e
   proposal_grows j s (Some p) e =
@@ -65,7 +66,7 @@ module _ (x : FloodingState) (t d : List (List (Option ℕ))) (ss : List (List S
         decided = λ v i. ((u.decided v i).0, proposal_grows j v _ (u.decided v i).1);
       }))
 
-  others_tied : (j : ℕ) → (j ≢ k) → Tied x j → Tied (after x t d ss w) j
+  others_tied : (j : ℕ) → (j ≢ k) → TiedSeats x j → TiedSeats (after x t d ss w) j
   others_tied j e o =
       record {
         past = o.past;
@@ -110,7 +111,7 @@ module _ (x : FloodingState) (t d : List (List (Option ℕ))) (ss : List (List S
       (g.due p b s bp bb e up ub begun last old (omega arith)))
       (cases_lt (h.round p) s)
 
-  here_tied : Tied (after x t d ss w) k
+  here_tied : TiedSeats (after x t d ss w) k
   here_tied =
       let n : ℕ = x.cards.count in
       let h = g.past in
@@ -156,7 +157,7 @@ action_whole x t d ss w k q r l g hk bq st sd sss new a =
       items = a.items;
       tied = λ j hj.
           ⊎_elim
-          (λ (e : j ≡ k). subst (Tied (after x t d ss w)) (sym e) (here_tied x t d ss w k q r (g.tied k hk) l a))
+          (λ (e : j ≡ k). subst (TiedSeats (after x t d ss w)) (sym e) (here_tied x t d ss w k q r (g.tied k hk) l a))
           (λ e. others_tied x t d ss w k q r (g.tied k hk) l a j e (g.tied j hj))
           (cases_eq j k);
     }

@@ -21,7 +21,8 @@ use Rattle.histories.proofs.Puts.{row_same}
 use Rattle.flooding.specs.Seats.{SeatState, no_seat, seat_in, with_seat, entering, hearing}
 use Rattle.flooding.specs.Mail.{LoadState, taking_in}
 use Rattle.flooding.specs.Flooding.{FloodingState, seat_on, enter_on, decide_on, proposal_of, may_move}
-use Rattle.flooding.specs.Made.{Shaped, fates_of, Stands, True, TrueOf, brings, Tied, Underway, SoundFlooding}
+use Rattle.flooding.specs.Made.{Shaped, fates_of, brings, Underway}
+use Rattle.flooding.specs.Sound.{Stands, Says, SaysIn, TiedSeats, SoundFlooding}
 use Rattle.flooding.specs.Counted.{each_counted}
 use Rattle.flooding.specs.Works.{cell_same, cell_other, shaped_after, may_move_means}
 use Rattle.flooding.specs.Pasts.{Further, no_further, passing_further, then_further, none_beyond}
@@ -44,7 +45,7 @@ module _ (x : FloodingState) (k q : ℕ) (g : SoundFlooding x) (hk : k < 32) (bq
   abbrev n : ℕ
   n = x.cards.count
 
-  abbrev tie : Tied x k
+  abbrev tie : TiedSeats x k
   tie = g.tied k hk
 
   six : q < 6
@@ -58,7 +59,7 @@ module _ (x : FloodingState) (k q : ℕ) (g : SoundFlooding x) (hk : k < 32) (bq
   trusts a ua = ⊎_elim (λ t. absurd (both_ways (crashed_in x.cards a) ua (g.sound.suspected_crashed q a t))) (λ t. t) (cases_Bool (suspects_in x.cards q a))
 
   -- It hears an item.
-  pub hear_whole : (y : Item LoadState) → True n tie.past y → y.to ≡ q → y.load.round ≡ (seat_in x.seats k q).round
+  pub hear_whole : (y : Item LoadState) → Says n tie.past y → y.to ≡ q → y.load.round ≡ (seat_in x.seats k q).round
       → SoundFlooding (seat_on x k q (hearing x.cards q y.from y.load.known (seat_in x.seats k q)))
   hear_whole y t to e =
       let c = x.cards in
@@ -124,9 +125,9 @@ module _ (x : FloodingState) (k q : ℕ) (g : SoundFlooding x) (hk : k < 32) (bq
           stands = subst (Stands n a.past t k q (ballot_in x.decisions k q)) (sym same)
               (sits_stand n (fates_of c) l t k q r (ballot_in x.decisions k q) s a undecided there begun (taking_grows c q k s₀ x.kept q own));
           items = All-append (Underway c) x.wire (sent c q load n) g.items (all_sent_are (Underway c) c q load n (λ b l e. record { instance_fits = hk; sender = bq; receiver = l; up = (to b l e).0 }));
-          wire_true = All-append (TrueOf n a.past k) x.wire (sent c q load n)
+          wire_true = All-append (SaysIn n a.past k) x.wire (sent c q load n)
               (trues_stay n h a.past q r k x.wire moved tie.wire_true)
-              (all_sent_are (TrueOf n a.past k) c q load n
+              (all_sent_are (SaysIn n a.past k) c q load n
               (λ b l' e _. record {
                 sender = bq;
                 receiver = l';
@@ -137,8 +138,8 @@ module _ (x : FloodingState) (k q : ℕ) (g : SoundFlooding x) (hk : k < 32) (bq
                 knew = λ z. knew z ∙ sym (a.moved.knew_stays q r z (omega (arith, m.now)));
                 fits = fits;
               }));
-          wire_others = λ j d o. All-append (TrueOf n o.past j) x.wire (sent c q load n) o.wire_true
-              (all_sent_are (TrueOf n o.past j) c q load n (λ b l' e f. absurd (d (sym f))));
+          wire_others = λ j d o. All-append (SaysIn n o.past j) x.wire (sent c q load n) o.wire_true
+              (all_sent_are (SaysIn n o.past j) c q load n (λ b l' e f. absurd (d (sym f))));
           wire_stays = λ j i p b w. any_append (brings j i p b) x.wire (sent c q load n) ∙ or_left _ _ w;
           sent = λ _ _ b l' d ub. any_append (brings k r q b) x.wire (sent c q load n)
               ∙ or_right (any_of (brings k r q b) x.wire) _ (any_sent (brings k r q b) c q load n b l' (and_from _ _ (not_from_false _ ub) (not_from_false _ (ne_eqb b q d)))

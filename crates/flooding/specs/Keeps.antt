@@ -26,7 +26,8 @@ use Rattle.histories.proofs.Puts.{row_same}
 use Rattle.flooding.specs.Seats.{SeatState, no_seat, new_seats, seat_in, with_seat, hearing, all_counted}
 use Rattle.flooding.specs.Mail.{LoadState}
 use Rattle.flooding.specs.Flooding.{FloodingState, flooding_work, seen, new_flooding, put_forward, enter_on, keep_on, hear_on, arrive_on, arrive_by, settle_on, propose_on, carry_on, lose_on, crash_on, doubt_on, suspect_on, may_move}
-use Rattle.flooding.specs.Made.{Shaped, fates_of, Stands, True, TrueOf, brings, Tied, Underway, SoundFlooding, MadeFlooding}
+use Rattle.flooding.specs.Made.{Shaped, fates_of, brings, Underway}
+use Rattle.flooding.specs.Sound.{Stands, Says, SaysIn, TiedSeats, SoundFlooding, SettledFlooding}
 use Rattle.flooding.specs.Mails.{hearing_round}
 use Rattle.flooding.specs.Works.{cell_same, cell_other, shaped_after}
 use Rattle.flooding.specs.Pasts.{proposing_further, none_beyond}
@@ -59,7 +60,7 @@ new_stands n k p =
       decided = λ v e. absurd (clash (ap is_some e));
     }))
 
-pub new_made : (n : ℕ) → MadeFlooding (new_flooding n)
+pub new_made : (n : ℕ) → SettledFlooding (new_flooding n)
 new_made n =
     let c = new_cards n in
     record {
@@ -88,7 +89,7 @@ new_made n =
 
 -- A proposal and an item that is heard: the card moves as often as it can, and no other can.
 
-settle_made : (x : FloodingState) (k q : ℕ) → SoundFlooding x → k < 32 → Running x q → ((j p : ℕ) → j < 32 → crashed_in x.cards p ≡ false → Elsewhere k q j p → may_move x j p ≡ false) → MadeFlooding (settle_on x k q)
+settle_made : (x : FloodingState) (k q : ℕ) → SoundFlooding x → k < 32 → Running x q → ((j p : ℕ) → j < 32 → crashed_in x.cards p ≡ false → Elsewhere k q j p → may_move x j p ≡ false) → SettledFlooding (settle_on x k q)
 settle_made x k q g hk u others =
     let s = settles x k q g hk u in
     record {
@@ -100,7 +101,7 @@ settle_made x k q g hk u others =
           (here_or_elsewhere k q j p);
     }
 
-pub propose_made : (x : FloodingState) (k p s : ℕ) → MadeFlooding x → s < 2 ^ 32 → propose_answer (seen x) k p s ≡ 0 → MadeFlooding (propose_on x k p s)
+pub propose_made : (x : FloodingState) (k p s : ℕ) → SettledFlooding x → s < 2 ^ 32 → propose_answer (seen x) k p s ≡ 0 → SettledFlooding (propose_on x k p s)
 propose_made x k p s m small h =
     let g = m.whole in
     let f = propose_accepted (seen x) k p s h in
@@ -134,7 +135,7 @@ propose_made x k p s m small h =
 
 -- An item that is carried.
 
-module _ (x : FloodingState) (i : ℕ) (y : Item LoadState) (m : MadeFlooding x) (at : slice_get x.wire i ≡ Some y) where
+module _ (x : FloodingState) (i : ℕ) (y : Item LoadState) (m : SettledFlooding x) (at : slice_get x.wire i ≡ Some y) where
   abbrev k : ℕ
   k = y.load.instance
 
@@ -147,20 +148,20 @@ module _ (x : FloodingState) (i : ℕ) (y : Item LoadState) (m : MadeFlooding x)
   under : Underway x.cards y
   under = all_nth (Underway x.cards) x.wire i y g.items at
 
-  says : (j : ℕ) (t : Tied x j) → y.load.instance ≡ j → True x.cards.count t.past y
-  says j t = all_nth (TrueOf x.cards.count t.past j) x.wire i y t.wire_true at
+  says : (j : ℕ) (t : TiedSeats x j) → y.load.instance ≡ j → Says x.cards.count t.past y
+  says j t = all_nth (SaysIn x.cards.count t.past j) x.wire i y t.wire_true at
 
-  left : Accounted x x.kept k y.load.round y.from q → MadeFlooding (lose_on x i)
+  left : Accounted x x.kept k y.load.round y.from q → SettledFlooding (lose_on x i)
   left a = record { whole = leave_whole x i y x.kept g at (λ j t. t.kept_true) (λ j r p b w. w) a; settled = m.settled }
 
-  stage : (t : Tied x k) → is_some (ballot_in x.decisions k q) ≡ false → t.past.round q ≡ (seat_in x.seats k q).round
+  stage : (t : TiedSeats x k) → is_some (ballot_in x.decisions k q) ≡ false → t.past.round q ≡ (seat_in x.seats k q).round
   stage t u = (t.stands q under.receiver).stage ∙ cond-false _ _ _ u
 
-  kept_made : is_some (ballot_in x.decisions k q) ≡ false → (seat_in x.seats k q).round < y.load.round → MadeFlooding (keep_on (lose_on x i) y)
+  kept_made : is_some (ballot_in x.decisions k q) ≡ false → (seat_in x.seats k q).round < y.load.round → SettledFlooding (keep_on (lose_on x i) y)
   kept_made u l =
       record {
         whole = leave_whole x i y (x.kept ++ y ∷ []) g at
-            (λ j t. All-push (TrueOf x.cards.count t.past j) x.kept y t.kept_true (says j t))
+            (λ j t. All-push (SaysIn x.cards.count t.past j) x.kept y t.kept_true (says j t))
             (λ j r p b w. any_append (brings j r p b) x.kept (y ∷ []) ∙ or_left _ _ w)
             (λ t up uq h. inl (
               omega (arith, stage t u),
@@ -170,7 +171,7 @@ module _ (x : FloodingState) (i : ℕ) (y : Item LoadState) (m : MadeFlooding x)
         settled = m.settled;
       }
 
-  heard_made : is_some (ballot_in x.decisions k q) ≡ false → suspects_in x.cards q y.from ≡ false → (seat_in x.seats k q).round ≡ y.load.round → MadeFlooding (settle_on (hear_on (lose_on x i) y) k q)
+  heard_made : is_some (ballot_in x.decisions k q) ≡ false → suspects_in x.cards q y.from ≡ false → (seat_in x.seats k q).round ≡ y.load.round → SettledFlooding (settle_on (hear_on (lose_on x i) y) k q)
   heard_made u trusts e =
       let c = x.cards in
       let w = under in
@@ -187,7 +188,7 @@ module _ (x : FloodingState) (i : ℕ) (y : Item LoadState) (m : MadeFlooding x)
       (λ t up uq h. inr (ap (λ r. t.past.counted q r y.from) (sym round) ∙ sym ((t.stands q w.receiver).seated.counts y.from w.sender) ∙ counted)) in
       settle_made (hear_on (lose_on x i) y) k q whole hk (w.receiver, w.up) (λ j p hj up d. seat_stays x k q j p s' g hk w.receiver d ∙ m.settled j p hj up)
 
-  arrive_made : MadeFlooding (arrive_on (lose_on x i) y)
+  arrive_made : SettledFlooding (arrive_on (lose_on x i) y)
   arrive_made =
       let c = x.cards in
       let s : SeatState = seat_in x.seats k q in
@@ -195,7 +196,7 @@ module _ (x : FloodingState) (i : ℕ) (y : Item LoadState) (m : MadeFlooding x)
       let d : Bool = suspects_in c q y.from in
       let x' = lose_on x i in
       let heard = settle_on (hear_on x' y) k q in
-      cond_both (b || d) x' (cond (nat_lt s.round y.load.round) (keep_on x' y) (cond (s.round == y.load.round) heard x')) MadeFlooding
+      cond_both (b || d) x' (cond (nat_lt s.round y.load.round) (keep_on x' y) (cond (s.round == y.load.round) heard x')) SettledFlooding
       (λ e. left (λ t up uq h.
       ⊎_elim
       (λ z. absurd (omega (arith, (t.stands q under.receiver).stage ∙ cond-true _ _ _ z, (says k t refl).last)))
@@ -203,19 +204,19 @@ module _ (x : FloodingState) (i : ℕ) (y : Item LoadState) (m : MadeFlooding x)
       (or_cases b d e)))
       (λ e.
       let u = or_parts b d e in
-      cond_both (nat_lt s.round y.load.round) (keep_on x' y) (cond (s.round == y.load.round) heard x') MadeFlooding
+      cond_both (nat_lt s.round y.load.round) (keep_on x' y) (cond (s.round == y.load.round) heard x') SettledFlooding
       (λ l. kept_made u.0 (ltb-true _ _ l))
-      (λ l. cond_both (s.round == y.load.round) heard x' MadeFlooding
+      (λ l. cond_both (s.round == y.load.round) heard x' SettledFlooding
       (λ z. heard_made u.0 u.1 (eqb-true _ _ z))
       (λ z. left (λ t up uq h. absurd (eqb-false s.round y.load.round z (omega (arith, ltb-false _ _ l, stage t u.0)))))))
 
-pub carry_made : (x : FloodingState) (i : ℕ) → MadeFlooding x → carry_answer (seen x).net i ≡ 0 → MadeFlooding (carry_on x i)
+pub carry_made : (x : FloodingState) (i : ℕ) → SettledFlooding x → carry_answer (seen x).net i ≡ 0 → SettledFlooding (carry_on x i)
 carry_made x i m h =
     let y = carried_item x.cards x.wire (flooding_work x) i h in
-    subst (λ o. MadeFlooding (arrive_by (lose_on x i) o)) (sym y.1) (arrive_made x i y.0 m y.1)
+    subst (λ o. SettledFlooding (arrive_by (lose_on x i) o)) (sym y.1) (arrive_made x i y.0 m y.1)
 
 -- A loss: what is lost was sent by a crashed card.
-pub lose_made : (x : FloodingState) (i : ℕ) → MadeFlooding x → lose_answer (seen x).net i ≡ 0 → MadeFlooding (lose_on x i)
+pub lose_made : (x : FloodingState) (i : ℕ) → SettledFlooding x → lose_answer (seen x).net i ≡ 0 → SettledFlooding (lose_on x i)
 lose_made x i m h =
     let y = lost_item x.cards x.wire (flooding_work x) i h in
     left x i y.0 m y.1 (λ t up uq l. absurd (both_ways (crashed_in x.cards y.0.from) up y.3))
@@ -226,7 +227,7 @@ same_counted : (c e : CardState) (q : ℕ) (s : SeatState) (m : ℕ) → ((y : �
 same_counted c e q s zero h = refl
 same_counted c e q s (suc m) h = cc (same_counted c e q s m h, h m)
 
-pub crash_made : (x : FloodingState) (p : ℕ) → MadeFlooding x → crash_answer (seen x).net p ≡ 0 → MadeFlooding (crash_on x p)
+pub crash_made : (x : FloodingState) (p : ℕ) → SettledFlooding x → crash_answer (seen x).net p ≡ 0 → SettledFlooding (crash_on x p)
 crash_made x p m h =
     let g = m.whole in
     let f = crash_accepted (seen x).net p h in
@@ -255,7 +256,7 @@ crash_made x p m h =
               past = t.past;
               history = (moves_make_histories c.count).later_keeps (fates_of c) (fates_of (with_crash c p)) t.past t.history later;
               stands = t.stands;
-              wire_true = all_left (TrueOf c.count t.past k) (TrueOf c.count t.past k) (elsewhere p) x.wire (λ y e _. e) t.wire_true;
+              wire_true = all_left (SaysIn c.count t.past k) (SaysIn c.count t.past k) (elsewhere p) x.wire (λ y e _. e) t.wire_true;
               kept_true = t.kept_true;
               due = λ a q r ba bq d ua uq o m ha hq.
                   ⊎_elim
@@ -270,7 +271,7 @@ crash_made x p m h =
           ∙ m.settled k q l (before q u).1;
     }
 
-pub suspect_made : (x : FloodingState) (q p : ℕ) → MadeFlooding x → suspect_answer (seen x).net q p ≡ 0 → MadeFlooding (suspect_on x q p)
+pub suspect_made : (x : FloodingState) (q p : ℕ) → SettledFlooding x → suspect_answer (seen x).net q p ≡ 0 → SettledFlooding (suspect_on x q p)
 suspect_made x q p m h =
     let g = m.whole in
     let f = suspect_accepted (seen x).net q p h in

@@ -22,21 +22,22 @@ use Rattle.histories.proofs.Agrees.{agreement}
 use Rattle.histories.proofs.Heard.{heard_knew}
 use Rattle.flooding.specs.Seats.{SeatState, seat_in, accounted_for}
 use Rattle.flooding.specs.Flooding.{FloodingState, flooding_work, seen, proposal_of, may_move}
-use Rattle.flooding.specs.Made.{Shaped, fates_of, brings, Tied, Underway, MadeFlooding}
+use Rattle.flooding.specs.Made.{Shaped, fates_of, brings, Underway}
+use Rattle.flooding.specs.Sound.{TiedSeats, SettledFlooding}
 use Rattle.flooding.specs.Counted.{all_from_each}
 
-instance_below : (t : List (List (Option ℕ))) (k p : ℕ) → Shaped t → is_some (ballot_in t k p) ≡ true → k < 32
+pub instance_below : (t : List (List (Option ℕ))) (k p : ℕ) → Shaped t → is_some (ballot_in t k p) ≡ true → k < 32
 instance_below t k p g h = ⊎_elim (λ l. l) (λ l. absurd (clash (sym (ap (λ r. is_some (slice_index_or {A = Option ℕ} r p None)) (get_or_past t k [] (omega (arith, g.instances)))) ∙ h))) (cases_lt k 32)
 
-some_proposal : (t : List (List (Option ℕ))) (k s : ℕ) (o : Option ℕ) → proposal_of t k o ≡ Some s → (q : ℕ) × (ballot_in t k q ≡ Some s)
+pub some_proposal : (t : List (List (Option ℕ))) (k s : ℕ) (o : Option ℕ) → proposal_of t k o ≡ Some s → (q : ℕ) × (ballot_in t k q ≡ Some s)
 some_proposal t k s None e = absurd (clash (ap is_some e))
 some_proposal t k s (Some q) e = (q, e)
 
-same_some : (s t : ℕ) → ◌≡◌ {A = Option ℕ} (Some s) (Some t) → s ≡ t
+pub same_some : (s t : ℕ) → ◌≡◌ {A = Option ℕ} (Some s) (Some t) → s ≡ t
 same_some s t e = cc
 
-module _ (x : FloodingState) (k : ℕ) (m : MadeFlooding x) (hk : k < 32) where
-  abbrev g : Tied x k
+module _ (x : FloodingState) (k : ℕ) (m : SettledFlooding x) (hk : k < 32) where
+  abbrev g : TiedSeats x k
   g = m.whole.tied k hk
 
   card : (p s : ℕ) → ballot_in x.decisions k p ≡ Some s → p < x.cards.count
@@ -120,7 +121,7 @@ module _ (x : FloodingState) (k : ℕ) (m : MadeFlooding x) (hk : k < 32) where
         (λ e. absurd (let z : g.past.round p ≡ (seat_in x.seats k p).round = t.stage ∙ cond-false _ _ _ e in omega (arith, t.seated.in_rounds)))
         (cases_Bool (is_some (ballot_in x.decisions k p)))
 
-pub lawful : (x : FloodingState) → MadeFlooding x → Lawful (seen x)
+pub lawful : (x : FloodingState) → SettledFlooding x → Lawful (seen x)
 lawful x m =
     let g = m.whole in
     record {

@@ -9,7 +9,8 @@ use Rattle.wire.specs.declared.Item.{Item}
 use Rattle.wire.proofs.Items.{all_removed, any_split}
 use Rattle.flooding.specs.Mail.{LoadState}
 use Rattle.flooding.specs.Flooding.{FloodingState}
-use Rattle.flooding.specs.Made.{TrueOf, brings, Tied, Underway, SoundFlooding}
+use Rattle.flooding.specs.Made.{brings, Underway}
+use Rattle.flooding.specs.Sound.{SaysIn, TiedSeats, SoundFlooding}
 
 -- Which item is asked for.
 pub brings_parts : (k r p q : ℕ) (y : Item LoadState) → brings k r p q y ≡ true → (y.from ≡ p) × (y.to ≡ q) × (y.load.instance ≡ k) × (y.load.round ≡ r)
@@ -22,11 +23,11 @@ brings_parts k r p q y b =
 -- The item of card p to card q in round r of instance k need not be under way.
 abbrev pub Accounted : FloodingState → List (Item LoadState) → ℕ → ℕ → ℕ → ℕ → Type 0
 Accounted x kept k r p q =
-    (g : Tied x k) → crashed_in x.cards p ≡ false → crashed_in x.cards q ≡ false → g.past.round q ≤ r
+    (g : TiedSeats x k) → crashed_in x.cards p ≡ false → crashed_in x.cards q ≡ false → g.past.round q ≤ r
     → ((g.past.round q < r) × (any_of (brings k r p q) kept ≡ true)) ⊎ (g.past.counted q r p ≡ true)
 
 pub leave_whole : (x : FloodingState) (i : ℕ) (y : Item LoadState) (kept : List (Item LoadState)) → SoundFlooding x → slice_get x.wire i ≡ Some y
-    → ((k : ℕ) (g : Tied x k) → All (TrueOf x.cards.count g.past k) kept)
+    → ((k : ℕ) (g : TiedSeats x k) → All (SaysIn x.cards.count g.past k) kept)
     → ((k r p q : ℕ) → any_of (brings k r p q) x.kept ≡ true → any_of (brings k r p q) kept ≡ true)
     → Accounted x kept y.load.instance y.load.round y.from y.to
     → SoundFlooding (record { cards = x.cards; proposals = x.proposals; decisions = x.decisions; seats = x.seats; wire = remove x.wire i; kept = kept })
@@ -51,7 +52,7 @@ leave_whole x i y kept g e kept_true kept-stays accounted =
             past = t.past;
             history = t.history;
             stands = t.stands;
-            wire_true = all_removed (TrueOf x.cards.count t.past k) x.wire i t.wire_true;
+            wire_true = all_removed (SaysIn x.cards.count t.past k) x.wire i t.wire_true;
             kept_true = kept_true k t;
             due = λ p q r bp bq d up uq o m hp hq.
                 ⊎_elim

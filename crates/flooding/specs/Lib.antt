@@ -3,6 +3,7 @@ pub mod Mail
 pub mod Room
 pub mod Flooding
 pub mod Made
+pub mod Sound
 pub mod Keeps
 pub mod Mails
 pub mod Works

@@ -20,7 +20,8 @@ use Rattle.wire.proofs.Taken.{carried_item, lost_item, senders_removed}
 use Rattle.flooding.specs.Seats.{SeatState, no_seat, new_seats, seat_in, entering}
 use Rattle.flooding.specs.Mail.{LoadState}
 use Rattle.flooding.specs.Flooding.{FloodingState, total, to_send, flooding_work, seen, new_flooding, enter_on, put_forward, propose_on, arrive_on, lose_on, carry_on, crash_on, doubt_on, suspect_on}
-use Rattle.flooding.specs.Made.{Underway, MadeFlooding}
+use Rattle.flooding.specs.Made.{Underway}
+use Rattle.flooding.specs.Sound.{SettledFlooding}
 use Rattle.flooding.specs.Works.{shaped_after, total_below, enter_work}
 use Rattle.flooding.specs.Changes.{DecidedBy, Placed, steps_moved, through_moved, arrive_moved}
 
@@ -60,7 +61,7 @@ thirty n l =
     let square : (n - 1) * (n - 1) ≤ 5 * 5 = mul-le-mul five five in
     omega arith
 
-pub propose_means : (x : FloodingState) (k p s : ℕ) → MadeFlooding x → s < 2 ^ 32 → propose_answer (seen x) k p s ≡ 0 → Proposed 30 (seen x) (seen (propose_on x k p s)) k p s
+pub propose_means : (x : FloodingState) (k p s : ℕ) → SettledFlooding x → s < 2 ^ 32 → propose_answer (seen x) k p s ≡ 0 → Proposed 30 (seen x) (seen (propose_on x k p s)) k p s
 propose_means x k p s g fits h =
     let f = propose_accepted (seen x) k p s h in
     let n : ℕ = x.cards.count in
@@ -86,7 +87,7 @@ propose_means x k p s g fits h =
       decided_more = decides_more x after p f.1 m.decided;
     }
 
-arrived_means : (x : FloodingState) (i : ℕ) (y : Item LoadState) → MadeFlooding x → slice_get x.wire i ≡ Some y → i < length x.wire → Carried (seen x) (seen (arrive_on (lose_on x i) y))
+arrived_means : (x : FloodingState) (i : ℕ) (y : Item LoadState) → SettledFlooding x → slice_get x.wire i ≡ Some y → i < length x.wire → Carried (seen x) (seen (arrive_on (lose_on x i) y))
 arrived_means x i y g e l =
     let u = all_nth (Underway x.cards) x.wire i y g.whole.items e in
     let placed : Placed (lose_on x i) y.to = record { seats_shaped = g.whole.seats_shaped; decisions_shaped = g.whole.decisions_shaped; few = g.whole.sound.few; card = u.receiver; up = u.up } in
@@ -101,12 +102,12 @@ arrived_means x i y g e l =
       decided_more = decides_more x after y.to u.up m.decided;
     }
 
-pub carry_means : (x : FloodingState) (i : ℕ) → MadeFlooding x → carry_answer (seen x).net i ≡ 0 → Carried (seen x) (seen (carry_on x i))
+pub carry_means : (x : FloodingState) (i : ℕ) → SettledFlooding x → carry_answer (seen x).net i ≡ 0 → Carried (seen x) (seen (carry_on x i))
 carry_means x i g h =
     let t = carried_item x.cards x.wire (flooding_work x) i h in
     rw t.1 (arrived_means x i t.0 g t.1 t.2)
 
-pub lose_means : (x : FloodingState) (i : ℕ) → MadeFlooding x → lose_answer (seen x).net i ≡ 0 → Lost (seen x) (seen (lose_on x i)) i
+pub lose_means : (x : FloodingState) (i : ℕ) → SettledFlooding x → lose_answer (seen x).net i ≡ 0 → Lost (seen x) (seen (lose_on x i)) i
 lose_means x i g h =
     let y = lost_item x.cards x.wire (flooding_work x) i h in
     record {
@@ -126,7 +127,7 @@ less_to_send c p q s g h =
     omega arith)
     (cases_Bool (crashed_in (with_crash c p) q))
 
-pub crash_means : (x : FloodingState) (p : ℕ) → MadeFlooding x → crash_answer (seen x).net p ≡ 0 → Crashed (seen x) (seen (crash_on x p)) p
+pub crash_means : (x : FloodingState) (p : ℕ) → SettledFlooding x → crash_answer (seen x).net p ≡ 0 → Crashed (seen x) (seen (crash_on x p)) p
 crash_means x p g h =
     let c = x.cards in
     let f = crash_accepted (seen x).net p h in
@@ -138,7 +139,7 @@ crash_means x p g h =
       decisions_stay = λ k q. refl;
     }
 
-pub suspect_means : (x : FloodingState) (q p : ℕ) → MadeFlooding x → suspect_answer (seen x).net q p ≡ 0 → Suspected (seen x) (seen (suspect_on x q p)) q p
+pub suspect_means : (x : FloodingState) (q p : ℕ) → SettledFlooding x → suspect_answer (seen x).net q p ≡ 0 → Suspected (seen x) (seen (suspect_on x q p)) q p
 suspect_means x q p g h =
     let f = suspect_accepted (seen x).net q p h in
     let placed : Placed (doubt_on x q p) q = record { seats_shaped = g.whole.seats_shaped; decisions_shaped = g.whole.decisions_shaped; few = g.whole.sound.few; card = f.0; up = f.2 } in

@@ -17,7 +17,8 @@ use Rattle.histories.proofs.Puts.{row_same, any_decides}
 use Rattle.histories.proofs.Kept.{moves_make_histories}
 use Rattle.flooding.specs.Seats.{SeatState, entering, hearing}
 use Rattle.flooding.specs.Mail.{LoadState, is_for, taking_one, taking_in}
-use Rattle.flooding.specs.Made.{fates_of, Seated, True, TrueOf, brings}
+use Rattle.flooding.specs.Made.{fates_of, brings}
+use Rattle.flooding.specs.Sound.{Seated, Says, SaysIn}
 use Rattle.flooding.specs.Mails.{taking_one_round}
 use Rattle.flooding.specs.Pasts.{Further, no_further, round_grows, then_further, counting_further, any_same, heard_stays}
 
@@ -32,7 +33,7 @@ seated_stays n f h l q r p s i m d g =
       knows = λ z o. g.knows z o ∙ sym (heard_stays n f h i l q r p s.round z m d);
     }
 
-true_stays : (n : ℕ) (h l : Past) (q r : ℕ) (y : Item LoadState) → Further h l q r → True n h y → True n l y
+true_stays : (n : ℕ) (h l : Past) (q r : ℕ) (y : Item LoadState) → Further h l q r → Says n h y → Says n l y
 true_stays n h l q r y m t =
     record {
       sender = t.sender;
@@ -45,8 +46,8 @@ true_stays n h l q r y m t =
       fits = t.fits;
     }
 
-pub trues_stay : (n : ℕ) (h l : Past) (q r k : ℕ) (xs : List (Item LoadState)) → Further h l q r → All (TrueOf n h k) xs → All (TrueOf n l k) xs
-trues_stay n h l q r k xs m t = All-weaker (TrueOf n h k) (TrueOf n l k) (λ y f e. true_stays n h l q r y m (f e)) xs t
+pub trues_stay : (n : ℕ) (h l : Past) (q r k : ℕ) (xs : List (Item LoadState)) → Further h l q r → All (SaysIn n h k) xs → All (SaysIn n l k) xs
+trues_stay n h l q r k xs m t = All-weaker (SaysIn n h k) (SaysIn n l k) (λ y f e. true_stays n h l q r y m (f e)) xs t
 
 -- Card q sits in round r, with a history that it has made from h by counting cards there.
 pub record Sits (n : ℕ) (f : Fates) (h : Past) (q r : ℕ) (s : SeatState) : Type 0 where
@@ -146,7 +147,7 @@ module _ (c : CardState) (h : Past) (q r : ℕ) (few : c.count ≤ 6) (bq : q < 
       nobody (suc m) = nobody m
 
   -- It hears an item of the round.
-  pub hears : (s : SeatState) (y : Item LoadState) → True c.count h y → y.to ≡ q → y.load.round ≡ r → Sits c.count (fates_of c) h q r s
+  pub hears : (s : SeatState) (y : Item LoadState) → Says c.count h y → y.to ≡ q → y.load.round ≡ r → Sits c.count (fates_of c) h q r s
       → Sits c.count (fates_of c) h q r (hearing c q y.from y.load.known s)
   hears s y t to e a =
       let there : r ≤ h.round y.from = omega (arith, t.entered) in
@@ -157,7 +158,7 @@ module _ (c : CardState) (h : Past) (q r : ℕ) (few : c.count ≤ 6) (bq : q < 
       (λ z. t.knew z ∙ ap (λ j. h.knew y.from j z) e ∙ sym (a.moved.knew_stays y.from r z there))
       t.fits)
 
-  pub takes_in : (k : ℕ) (s : SeatState) (xs : List (Item LoadState)) → All (TrueOf c.count h k) xs → Sits c.count (fates_of c) h q r s
+  pub takes_in : (k : ℕ) (s : SeatState) (xs : List (Item LoadState)) → All (SaysIn c.count h k) xs → Sits c.count (fates_of c) h q r s
       → Sits c.count (fates_of c) h q r (taking_in c k q s xs)
   takes_in k s [] t a = a
   takes_in k s (y ∷ ys) t a =

@@ -8,7 +8,8 @@ use Rattle.tables.specs.Tables.{ballot_in, with_ballot}
 use Rattle.flooding.specs.Seats.{SeatState, no_seat, seat_in, with_seat, entering, ready}
 use Rattle.flooding.specs.Mail.{taking_in}
 use Rattle.flooding.specs.Flooding.{FloodingState, seat_on, enter_on, decide_on, proposal_of, may_move, move_on, step_on, steps_on, settle_on, through_on}
-use Rattle.flooding.specs.Made.{Shaped, stage_of, SoundFlooding}
+use Rattle.flooding.specs.Made.{Shaped}
+use Rattle.flooding.specs.Sound.{stage_from, SoundFlooding}
 use Rattle.flooding.specs.Mails.{taking_round}
 use Rattle.flooding.specs.Works.{cell_same, cell_other, shaped_after, may_move_means, step_cards}
 use Rattle.flooding.specs.Actions.{Elsewhere}
@@ -18,7 +19,7 @@ abbrev pub Running : FloodingState → ℕ → Type 0
 Running x q = (q < x.cards.count) × (crashed_in x.cards q ≡ false)
 
 abbrev stage_in : FloodingState → ℕ → ℕ → ℕ
-stage_in x k q = stage_of x.cards.count (ballot_in x.decisions k q) (seat_in x.seats k q)
+stage_in x k q = stage_from x.cards.count (ballot_in x.decisions k q) (seat_in x.seats k q)
 
 -- Whether a card may move depends on its seat and its decision.
 pub seat_stays : (x : FloodingState) (k q j p : ℕ) (s : SeatState) → SoundFlooding x → k < 32 → q < x.cards.count → Elsewhere k q j p → may_move (seat_on x k q s) j p ≡ may_move x j p

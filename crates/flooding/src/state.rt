@@ -9,7 +9,9 @@ use crate::seats::Seats;
 use cards::Cards;
 use tables::ballots::Ballots;
 
+pub mod calls;
 pub mod consensus;
+mod laws;
 mod moves;
 
 // The items under way, and those that came before their round and are kept for it.

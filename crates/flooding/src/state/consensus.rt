@@ -1,5 +1,5 @@
 ghost use Rattle.flooding.specs.Flooding.{FloodingState, flooding_of, flooding_cards, flooding_crashed, flooding_suspects, flooding_wire, flooding_work, flooding_proposal, flooding_decision, new_flooding, propose_on, carry_on, lose_on, crash_on, suspect_on};
-ghost use Rattle.flooding.specs.Made.{MadeFlooding};
+ghost use Rattle.flooding.specs.Sound.{SettledFlooding};
 ghost use Rattle.std.proofs.Common.{arith};
 ghost use Rattle.flooding.specs.Keeps.{new_made, propose_made, carry_made, lose_made, crash_made, suspect_made};
 ghost use Rattle.flooding.specs.Means.{new_means, propose_means, carry_means, lose_means, crash_means, suspect_means};
@@ -37,7 +37,7 @@ impl Consensus for Flooding {
 
     ghost decision = { flooding_decision };
 
-    ghost made = { MadeFlooding };
+    ghost made = { SettledFlooding };
 
     ghost bound = { 30 };
 
@@ -71,55 +71,27 @@ impl Consensus for Flooding {
     } };
 
     fn new(heap: Global, count: usize) -> Result<Flooding, AllocError> {
-        let wire = Mail::new(heap)?;
-        let kept = Mail::new(heap)?;
-        Ok(Flooding {
-            cards: Cards::new(count),
-            proposals: Ballots::new(),
-            decisions: Ballots::new(),
-            seats: Seats::new(),
-            wire,
-            kept,
-        })
+        Flooding::new(heap, count)
     }
 
-    // A proposer knows itself and enters round 1.
     fn propose(&mut self, instance: usize, card: usize, notes: NoteSet) -> Result<(), Refusal> {
-        if let Err(refusal) = self.proposals.propose(&self.cards, instance, card, notes) {
-            return Err(refusal);
-        }
-        self.enter(instance, card, 1, NoteSet::empty().with(card));
-        self.settle(instance, card);
-        Ok(())
+        self.propose(instance, card, notes)
     }
 
     fn carry(&mut self, item: usize) -> Result<(), Refusal> {
-        let Some(taken) = self.wire.take(item) else {
-            return Err(Refusal::NoSuchItem);
-        };
-        self.arrive(taken);
-        Ok(())
+        self.carry(item)
     }
 
     fn lose(&mut self, item: usize) -> Result<(), Refusal> {
-        self.wire.lose(&self.cards, item)
+        self.lose(item)
     }
 
     fn crash(&mut self, card: usize) -> Result<(), Refusal> {
-        if let Err(refusal) = self.cards.crash(card) {
-            return Err(refusal);
-        }
-        self.wire.let_go(card);
-        Ok(())
+        self.crash(card)
     }
 
-    // The suspicion is worked through by ascending instance.
     fn suspect(&mut self, by: usize, card: usize) -> Result<(), Refusal> {
-        if let Err(refusal) = self.cards.suspect(by, card) {
-            return Err(refusal);
-        }
-        self.settle_all(by);
-        Ok(())
+        self.suspect(by, card)
     }
 
     fn bound() -> u32 {

@@ -17,8 +17,8 @@ loop-place-preserved c =
     let s = seat_of c.loop-place.taken in
     let n = length-map items item_state in
     let i = c.loop-place.place in
-    taking_next cards k q s (seat_of c.take-in-at-taken.result) (mail_of c.args.self.now) i (omega arith)
-    (c.take-in-at-taken.ensures ∙ ap (taking_at cards k q s) (sym (nth_map item_state items i)))
+    taking_next cards k q s (seat_of c.take_in_at-taken.result) (mail_of c.args.self.now) i (omega arith)
+    (c.take_in_at-taken.ensures ∙ ap (taking_at cards k q s) (sym (nth_map item_state items i)))
     ∙ c.loop-place.invariant
 
 pub returns : goal.returns

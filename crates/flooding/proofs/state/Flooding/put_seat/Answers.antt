@@ -5,10 +5,14 @@ use Rattle.flooding.specs.Seats.{seat_of, seats_of}
 use Rattle.flooding.proofs.Rooms.{left_after}
 use Rattle.flooding.proofs.state.Flooding.put_seat.Goals as goal
 
-pub invariant-of-self : goal.invariant-of-self
-invariant-of-self c =
+pub invariant_of-self : goal.invariant_of-self
+invariant_of-self c =
     let s = c.args.self.now in
-    (s.sendable, (s.keepable, (omega (arith, c.requires, ap rounds_left c.put.ensures, left_after (seats_of s.seats) c.args.instance c.args.card (seat_of c.args.seat)), tt)))
+    record {
+      sendable = s.sendable;
+      keepable = s.keepable;
+      room = omega (arith, c.requires, ap rounds_left c.put.ensures, left_after (seats_of s.seats) c.args.instance c.args.card (seat_of c.args.seat));
+    }
 
 pub returns : goal.returns
 returns c =

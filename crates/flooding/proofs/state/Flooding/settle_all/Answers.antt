@@ -11,7 +11,7 @@ unfolding through_on
 loop-instance-preserved c =
     let x = flooding_of c.args.self.now in
     let k = c.loop-instance.instance in
-    c.settle-in.ensures ∙ ap (λ z. settle_on z k c.args.card) c.loop-instance.invariant ∙ sym (ap (through_on x c.args.card) (add-one k))
+    c.settle_in.ensures ∙ ap (λ z. settle_on z k c.args.card) c.loop-instance.invariant ∙ sym (ap (through_on x c.args.card) (add-one k))
 
 pub returns : goal.returns
 returns c =

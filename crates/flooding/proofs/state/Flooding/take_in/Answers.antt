@@ -7,13 +7,17 @@ use Rattle.flooding.specs.Mails.{taking_round}
 use Rattle.flooding.proofs.Rooms.{left_after}
 use Rattle.flooding.proofs.state.Flooding.take_in.Goals as goal
 
-pub invariant-of-self : goal.invariant-of-self
-invariant-of-self c =
+pub invariant_of-self : goal.invariant_of-self
+invariant_of-self c =
     let s = c.args.self.now in
     let t = seats_of s.seats in
     let k = c.args.instance in
     let q = c.args.card in
-    let r : (seat_of c.take-in-taken.result).round ≡ (seat_in t k q).round =
-    ap (λ (z : SeatState). z.round) c.take-in-taken.ensures
+    let r : (seat_of c.take_in-taken.result).round ≡ (seat_in t k q).round =
+    ap (λ (z : SeatState). z.round) c.take_in-taken.ensures
     ∙ taking_round (cards_of s.cards) k q (seat_of c.of-seat.result) (mail_of s.kept) ∙ ap (λ (z : SeatState). z.round) c.of-seat.ensures in
-    (s.sendable, (s.keepable, (omega (arith, s.room, ap rounds_left c.put.ensures, ap rounds_after r, left_after t k q (seat_of c.take-in-taken.result)), tt)))
+    record {
+      sendable = s.sendable;
+      keepable = s.keepable;
+      room = omega (arith, s.room, ap rounds_left c.put.ensures, ap rounds_after r, left_after t k q (seat_of c.take_in-taken.result));
+    }

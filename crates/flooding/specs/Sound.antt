@@ -1,0 +1,77 @@
+-- What holds of every flooding that is made by `new` and the calls, card by card: each seat, and each item, says what its history says.
+use Rattle.std.specs.Prelude.{◌≡◌, ℕ, suc, ◌^◌, ◌<◌, ◌≤◌, Bool, true, false, cond, ◌⊎◌, List, is_some, Some, Option, ◌≢◌, nat_lt}
+use Rattle.std.specs.List.{AllByRecursion as All}
+use Rattle.notes.specs.Sets.{has, low}
+use Rattle.cards.specs.Cards.{crashed_in, SoundCards}
+use Rattle.tables.specs.Tables.{ballot_in}
+use Rattle.wire.specs.Wires.{any_of}
+use Rattle.wire.specs.declared.Item.{Item}
+use Rattle.histories.specs.Histories.{Past, History}
+use Rattle.histories.specs.Moves.{heard_of}
+use Rattle.flooding.specs.Seats.{SeatState, seat_in}
+use Rattle.flooding.specs.Mail.{LoadState}
+use Rattle.flooding.specs.Flooding.{FloodingState, proposal_of, may_move}
+use Rattle.flooding.specs.Made.{Shaped, fates_of, brings, Underway}
+
+-- The round of a card as its history counts it: one beyond the last once it has decided.
+abbrev pub stage_from : ℕ → Option ℕ → SeatState → ℕ
+stage_from n d s = cond (is_some d) (suc n) s.round
+
+-- The seat of card p holds what the history says of its round: whom it has counted, and what it has heard.
+pub record Seated (n : ℕ) (h : Past) (p : ℕ) (s : SeatState) : Type 0 where
+  pub in_rounds : s.round ≤ n
+  pub fits : s.known < 2 ^ 32
+  pub counts : (y : ℕ) → y < n → has s.counted y ≡ h.counted p s.round y
+  pub knows : (z : ℕ) → 1 ≤ s.round → has s.known z ≡ heard_of n h p s.round z
+
+-- Card p stands in instance k where the history says: t are the proposals, d is its decision, s its seat.
+pub record Stands (n : ℕ) (h : Past) (t : List (List (Option ℕ))) (k p : ℕ) (d : Option ℕ) (s : SeatState) : Type 0 where
+  pub stage : h.round p ≡ stage_from n d s
+  pub proposed : is_some (ballot_in t k p) ≡ nat_lt 0 s.round
+  pub seated : Seated n h p s
+  pub self_counted : 0 < s.round → has s.counted p ≡ true
+  pub decided : (v : ℕ) → d ≡ Some v → (s.round ≡ n) × (proposal_of t k (low s.known) ≡ Some v)
+
+-- An item says what its sender knew on entering its round.
+pub record Says (n : ℕ) (h : Past) (y : Item LoadState) : Type 0 where
+  pub sender : y.from < n
+  pub receiver : y.to < n
+  pub others : y.to ≡ y.from → ⊥
+  pub begun : 1 ≤ y.load.round
+  pub last : y.load.round ≤ n
+  pub entered : y.load.round ≤ h.round y.from
+  pub knew : (z : ℕ) → has y.load.known z ≡ h.knew y.from y.load.round z
+  pub fits : y.load.known < 2 ^ 32
+
+-- It does so if it is of instance k.
+abbrev pub SaysIn : ℕ → Past → ℕ → Item LoadState → Type 0
+SaysIn n h k y = y.load.instance ≡ k → Says n h y
+
+-- The state of instance k is that of a history.
+pub record TiedSeats (x : FloodingState) (k : ℕ) : Type 0 where
+  pub past : Past
+  pub history : History x.cards.count (fates_of x.cards) past
+  pub stands : (p : ℕ) → p < x.cards.count → Stands x.cards.count past x.proposals k p (ballot_in x.decisions k p) (seat_in x.seats k p)
+  pub wire_true : All (SaysIn x.cards.count past k) x.wire
+  pub kept_true : All (SaysIn x.cards.count past k) x.kept
+  -- what a running card has sent in a round that the running receiver has not left is under way, kept for that round, or counted
+  pub due : (p q r : ℕ) → p < x.cards.count → q < x.cards.count → (q ≢ p) → crashed_in x.cards p ≡ false → crashed_in x.cards q ≡ false
+      → 1 ≤ r → r ≤ x.cards.count → r ≤ past.round p → past.round q ≤ r
+      → (any_of (brings k r p q) x.wire ≡ true) ⊎ (((past.round q < r) × (any_of (brings k r p q) x.kept ≡ true)) ⊎ (past.counted q r p ≡ true))
+
+-- What holds at any time, between two moves of a card too.
+pub record SoundFlooding (x : FloodingState) : Type 0 where
+  pub sound : SoundCards x.cards
+  pub proposals_shaped : Shaped x.proposals
+  pub decisions_shaped : Shaped x.decisions
+  pub seats_shaped : Shaped x.seats
+  pub proposers : (k p : ℕ) → is_some (ballot_in x.proposals k p) ≡ true → p < x.cards.count
+  pub deciders : (k p : ℕ) → is_some (ballot_in x.decisions k p) ≡ true → p < x.cards.count
+  pub proposed_sets : (k p s : ℕ) → ballot_in x.proposals k p ≡ Some s → (0 < s) × (s < 2 ^ 32)
+  pub items : All (Underway x.cards) x.wire
+  pub tied : (k : ℕ) → k < 32 → TiedSeats x k
+
+-- Between the calls no running card can move.
+pub record SettledFlooding (x : FloodingState) : Type 0 where
+  pub whole : SoundFlooding x
+  pub settled : (k p : ℕ) → k < 32 → crashed_in x.cards p ≡ false → may_move x k p ≡ false
