@@ -4,7 +4,7 @@ use Rattle.std.proofs.Common.{sym, ap, ◌∙◌, ⊎_elim, arith, get_or-set_ot
 use borrow.Author.Tests.{clash}
 use Rattle.std.proofs.lemmas.Nat.{or_lt}
 use Rattle.std.proofs.Math.Pow.{pow-lt}
-use Rattle.std.specs.List.{AllByRecursion as All}
+use Rattle.std.specs.List.{AllByRecursion}
 use Rattle.std.proofs.lemmas.List.{get_or_past}
 use Rattle.std.proofs.lemmas.Bool.{cases_eq, cases_lt, cond_both, and_from, ne_eqb, lt-ltb, ltb-true, not_from_false}
 use Rattle.std.proofs.lemmas.Bool.Decides.{nat_tests}
@@ -51,7 +51,7 @@ pub handed_fits : (t : List ℕ) (q m p : ℕ) → q < length t → ((r : ℕ) �
 handed_fits t q m p h f = rw (written t q p (added (set_in t q) m) 0 h) (cond_both (p == q) (added (set_in t q) m) (set_in t p) (λ z. z < 2 ^ 32) (λ _. added_fits (set_in t q) m (f q)) (λ _. f p))
 
 -- The sender of an item that the carrier sent.
-pub carrier_sends : (xs : List (Item ℕ)) (i : ℕ) → All (λ y. y.from ≡ 7) xs → slice_index_or (senders xs) i 7 ≡ 7
+pub carrier_sends : (xs : List (Item ℕ)) (i : ℕ) → AllByRecursion (λ y. y.from ≡ 7) xs → slice_index_or (senders xs) i 7 ≡ 7
 carrier_sends [] i h = refl
 carrier_sends (x ∷ xs) zero h = h.0
 carrier_sends (x ∷ xs) (suc i) h = carrier_sends xs i h.1

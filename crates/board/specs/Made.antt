@@ -1,6 +1,6 @@
 -- What holds of every board that is made by `new` and the calls.
 use Rattle.std.specs.Prelude.{◌≡◌, ℕ, ◌^◌, ◌<◌, ◌≤◌, Bool, true, false, ◌&&◌, ◌||◌, List, length, is_some, Some, Option, ◌==◌}
-use Rattle.std.specs.List.{AllByRecursion as All}
+use Rattle.std.specs.List.{AllByRecursion}
 use Rattle.notes.specs.Sets.{has}
 use Rattle.cards.specs.Cards.{CardState, crashed_in, SoundCards}
 use Rattle.tables.specs.Tables.{poster_in, set_in}
@@ -24,7 +24,7 @@ pub record MadeBoard (x : BoardState) : Type 0 where
   pub notes : length x.posters ≡ 32
   pub sets : length x.handed ≡ 6
   pub posters_cards : (m p : ℕ) → poster_in x.posters m ≡ Some p → p < x.cards.count
-  pub items : All (Underway x.cards x.posters) x.wire
+  pub items : AllByRecursion (Underway x.cards x.posters) x.wire
   pub handed_posted : (p m : ℕ) → has (set_in x.handed p) m ≡ true → is_some (poster_in x.posters m) ≡ true
   pub outside : (p : ℕ) → x.cards.count ≤ p → set_in x.handed p ≡ 0
   pub fits : (p : ℕ) → set_in x.handed p < 2 ^ 32

@@ -1,7 +1,7 @@
 -- The cards: what is kept by a crash and a suspicion, and what the interfaces say of them.
 use Rattle.std.proofs.Common.{◌≡◌, ℕ, ◌<◌, ◌≤◌, Bool, true, false, cond, ◌&&◌, ◌||◌, eqb, ltb, ◌⊎◌, List, [], length, get_or, set, replicate, sym, refl, ◌∙◌, subst, ⊎_elim, arith, length-set}
 use borrow.Author.Tests.{clash}
-use Rattle.std.specs.List.{AllByRecursion as All}
+use Rattle.std.specs.List.{AllByRecursion}
 use Rattle.std.proofs.lemmas.Bool.{or_cases, or_right, and_parts, eqb-true}
 use Rattle.std.proofs.lemmas.Bool.Decides.{nat_tests}
 use Rattle.parts.specs.Views.{Quiet}
@@ -84,7 +84,7 @@ net_suspected c q p w w' k k' g hq hp less =
 
 -- What is certain of every state.
 
-pub lawful_net : (c : CardState) (w : List ℕ) (k : ℕ) → SoundCards c → All (λ s. (s < c.count) ⊎ (s ≡ 7)) w → length w ≤ k → LawfulNet (net_of c w k)
+pub lawful_net : (c : CardState) (w : List ℕ) (k : ℕ) → SoundCards c → AllByRecursion (λ s. (s < c.count) ⊎ (s ≡ 7)) w → length w ≤ k → LawfulNet (net_of c w k)
 lawful_net c w k g s l =
     record { few_cards = g.few; crashed_are_cards = g.crashed_cards; suspecting_are_cards = g.suspecting_cards; suspected_have_crashed = g.suspected_crashed; senders_are_cards_or_carrier = s; work_covers_wire = l }
 

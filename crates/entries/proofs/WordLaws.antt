@@ -4,7 +4,7 @@ use Rattle.std.proofs.lemmas.Bool.Decides.{nat_tests}
 use Rattle.std.proofs.lemmas.Bool.{cond-true}
 use Rattle.std.proofs.lemmas.Slice.Eq.{bytes_eq-Decides}
 use Rattle.std.specs.Option.{option_map}
-use Rattle.std.specs.List.{AllByRecursion as All}
+use Rattle.std.specs.List.{AllByRecursion}
 use Rattle.text.specs.Fields.{Cut, number, word, label, number_or, read_field, cut_fields, number_in, only_byte, letter_in, is_word}
 use Rattle.text.specs.Written.{Free, spaced, spaced_after, field_bytes}
 use Rattle.text.proofs.DecimalLaws.{Digits, decimal_digits, numeral_back}
@@ -51,13 +51,13 @@ decimal_plain v h = (digits_free 32 (decimal v) (omega arith) (decimal_digits v 
 -- one to four plain words
 abbrev pub Wordy : List (List ℕ) → Type 0
 Wordy [] = ⊥
-Wordy (w ∷ ws) = (length ws < 4) × All Plain (w ∷ ws)
+Wordy (w ∷ ws) = (length ws < 4) × AllByRecursion Plain (w ∷ ws)
 
-spaces_free : (ws : List (List ℕ)) → All Plain ws → All (Free 32) ws
+spaces_free : (ws : List (List ℕ)) → AllByRecursion Plain ws → AllByRecursion (Free 32) ws
 spaces_free [] a = tt
 spaces_free (w ∷ ws) a = (a.0.0, spaces_free ws a.1)
 
-after_clean : (ws : List (List ℕ)) → All Plain ws → Free 10 (spaced_after ws)
+after_clean : (ws : List (List ℕ)) → AllByRecursion Plain ws → Free 10 (spaced_after ws)
 after_clean [] a = tt
 after_clean (w ∷ ws) a = (λ q. omega arith, free_append 10 w (spaced_after ws) a.0.1 (after_clean ws a.1))
 

@@ -1,7 +1,7 @@
 -- One card acts in one instance: what holds together before does so afterwards, where the card stands as its history says and its mail is accounted for.
 use Rattle.std.specs.Prelude.{◌≡◌, ℕ, ◌^◌, ◌<◌, ◌≤◌, true, false, ◌⊎◌, List, is_some, Some, None, Option, ◌≢◌}
 use Rattle.std.proofs.Common.{sym, ap, subst, ◌∙◌, inl, inr, ⊎_elim, arith}
-use Rattle.std.specs.List.{AllByRecursion as All}
+use Rattle.std.specs.List.{AllByRecursion}
 use Rattle.std.proofs.lemmas.Bool.{cases_eq, cases_lt}
 use Rattle.cards.specs.Cards.{crashed_in}
 use Rattle.tables.specs.Tables.{ballot_in}
@@ -36,9 +36,9 @@ pub record Action (x : FloodingState) (t d : List (List (Option ℕ))) (ss : Lis
   pub history : History x.cards.count (fates_of x.cards) l
   pub moved : Further g.past l q r
   pub stands : Stands x.cards.count l t k q (ballot_in d k q) (seat_in ss k q)
-  pub items : All (Underway x.cards) w
-  pub wire_true : All (SaysIn x.cards.count l k) w
-  pub wire_others : (j : ℕ) → (j ≢ k) → (o : TiedSeats x j) → All (SaysIn x.cards.count o.past j) w
+  pub items : AllByRecursion (Underway x.cards) w
+  pub wire_true : AllByRecursion (SaysIn x.cards.count l k) w
+  pub wire_others : (j : ℕ) → (j ≢ k) → (o : TiedSeats x j) → AllByRecursion (SaysIn x.cards.count o.past j) w
   pub wire_stays : (j s a b : ℕ) → any_of (brings j s a b) x.wire ≡ true → any_of (brings j s a b) w ≡ true
   -- on entering a round it sends to all, and takes in what was kept
   pub sent : g.past.round q < r → r ≤ x.cards.count → (b : ℕ) → b < x.cards.count → (b ≢ q) → crashed_in x.cards b ≡ false → any_of (brings k r q b) w ≡ true

@@ -1,7 +1,7 @@
 -- An item leaves the wire: it is accounted for where it was kept or counted, or nobody waits for it.
 use Rattle.std.specs.Prelude.{◌≡◌, ℕ, ◌<◌, ◌≤◌, true, false, ◌&&◌, ◌⊎◌, List, Some, ◌==◌}
 use Rattle.std.proofs.Common.{sym, subst, ◌∙◌, inl, inr, ⊎_elim}
-use Rattle.std.specs.List.{slice_get, remove, AllByRecursion as All}
+use Rattle.std.specs.List.{slice_get, remove, AllByRecursion}
 use Rattle.std.proofs.lemmas.Bool.{and_parts, or_cases, eqb-true}
 use Rattle.cards.specs.Cards.{crashed_in}
 use Rattle.wire.specs.Wires.{any_of}
@@ -27,7 +27,7 @@ Accounted x kept k r p q =
     → ((g.past.round q < r) × (any_of (brings k r p q) kept ≡ true)) ⊎ (g.past.counted q r p ≡ true)
 
 pub leave_whole : (x : FloodingState) (i : ℕ) (y : Item LoadState) (kept : List (Item LoadState)) → SoundFlooding x → slice_get x.wire i ≡ Some y
-    → ((k : ℕ) (g : TiedSeats x k) → All (SaysIn x.cards.count g.past k) kept)
+    → ((k : ℕ) (g : TiedSeats x k) → AllByRecursion (SaysIn x.cards.count g.past k) kept)
     → ((k r p q : ℕ) → any_of (brings k r p q) x.kept ≡ true → any_of (brings k r p q) kept ≡ true)
     → Accounted x kept y.load.instance y.load.round y.from y.to
     → SoundFlooding (record { cards = x.cards; proposals = x.proposals; decisions = x.decisions; seats = x.seats; wire = remove x.wire i; kept = kept })

@@ -1,6 +1,6 @@
 -- What holds of every flooding that is made by `new` and the calls: in each instance its state is that of a history.
 use Rattle.std.specs.Prelude.{◌≡◌, ℕ, suc, ◌^◌, ◌<◌, ◌≤◌, Bool, true, false, cond, not, ◌&&◌, ◌||◌, ◌⊎◌, List, [], length, is_some, Some, Option, ◌==◌, ◌≢◌, nat_lt, slice_index_or}
-use Rattle.std.specs.List.{AllByRecursion as All}
+use Rattle.std.specs.List.{AllByRecursion}
 use Rattle.notes.specs.Sets.{has, low}
 use Rattle.cards.specs.Cards.{CardState, crashed_in, suspects_in, SoundCards}
 use Rattle.tables.specs.Tables.{ballot_in}
@@ -51,8 +51,8 @@ pub record Tied (x : FloodingState) (k : ℕ) : Type 0 where
   pub knows : (p z : ℕ) → p < x.cards.count → 1 ≤ (seat_in x.seats k p).round → has (seat_in x.seats k p).known z ≡ heard_of x.cards.count past p (seat_in x.seats k p).round z
   pub decided : (p s : ℕ) → ballot_in x.decisions k p ≡ Some s
       → (p < x.cards.count) × (((seat_in x.seats k p).round ≡ x.cards.count) × (proposal_of x.proposals k (low (seat_in x.seats k p).known) ≡ Some s))
-  pub wire_true : All (λ y. y.load.instance ≡ k → True x.cards.count past k y) x.wire
-  pub kept_true : All (λ y. y.load.instance ≡ k → True x.cards.count past k y) x.kept
+  pub wire_true : AllByRecursion (λ y. y.load.instance ≡ k → True x.cards.count past k y) x.wire
+  pub kept_true : AllByRecursion (λ y. y.load.instance ≡ k → True x.cards.count past k y) x.kept
   -- what a running card has sent in a round that the running receiver has not left is under way, kept for that round, or counted
   pub due : (p q r : ℕ) → p < x.cards.count → q < x.cards.count → (q ≢ p) → crashed_in x.cards p ≡ false → crashed_in x.cards q ≡ false
       → 1 ≤ r → r ≤ x.cards.count → r ≤ past.round p → past.round q ≤ r
@@ -74,5 +74,5 @@ pub record MadeFlooding (x : FloodingState) : Type 0 where
   pub seats_shaped : Shaped x.seats
   pub proposers : (k p : ℕ) → is_some (ballot_in x.proposals k p) ≡ true → p < x.cards.count
   pub proposed_sets : (k p s : ℕ) → ballot_in x.proposals k p ≡ Some s → (0 < s) × (s < 2 ^ 32)
-  pub items : All (Underway x.cards) x.wire
+  pub items : AllByRecursion (Underway x.cards) x.wire
   pub tied : (k : ℕ) → k < 32 → Tied x k

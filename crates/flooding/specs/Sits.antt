@@ -2,7 +2,7 @@
 use Rattle.std.specs.Prelude.{◌≡◌, ℕ, zero, suc, ◌^◌, ◌<◌, ◌≤◌, Bool, true, false, cond, not, ◌&&◌, ◌||◌, List, [], ◌∷◌, ◌==◌, bit_or, nat_eq, refl}
 use Rattle.std.proofs.Common.{sym, ap, subst, ◌∙◌, ⊎_elim, arith}
 use Rattle.std.proofs.lemmas.Nat.{or_lt}
-use Rattle.std.specs.List.{AllByRecursion as All}
+use Rattle.std.specs.List.{AllByRecursion}
 use Rattle.std.proofs.ByRecursion.{All-weaker}
 use Rattle.std.proofs.lemmas.Bool.{cases_Bool, both_ways, cond_both, cond-true, cond-false, and_parts, and_from, and_left, or_cases, or_left, or_right, eqb-true, eq-eqb, lt-ltb, not_from_false}
 use Rattle.notes.specs.Sets.{has, added}
@@ -46,7 +46,7 @@ true_stays n h l q r y m t =
       fits = t.fits;
     }
 
-pub trues_stay : (n : ℕ) (h l : Past) (q r k : ℕ) (xs : List (Item LoadState)) → Further h l q r → All (SaysIn n h k) xs → All (SaysIn n l k) xs
+pub trues_stay : (n : ℕ) (h l : Past) (q r k : ℕ) (xs : List (Item LoadState)) → Further h l q r → AllByRecursion (SaysIn n h k) xs → AllByRecursion (SaysIn n l k) xs
 trues_stay n h l q r k xs m t = All-weaker (SaysIn n h k) (SaysIn n l k) (λ y f e. true_stays n h l q r y m (f e)) xs t
 
 -- Card q sits in round r, with a history that it has made from h by counting cards there.
@@ -158,7 +158,7 @@ module _ (c : CardState) (h : Past) (q r : ℕ) (few : c.count ≤ 6) (bq : q < 
       (λ z. t.knew z ∙ ap (λ j. h.knew y.from j z) e ∙ sym (a.moved.knew_stays y.from r z there))
       t.fits)
 
-  pub takes_in : (k : ℕ) (s : SeatState) (xs : List (Item LoadState)) → All (SaysIn c.count h k) xs → Sits c.count (fates_of c) h q r s
+  pub takes_in : (k : ℕ) (s : SeatState) (xs : List (Item LoadState)) → AllByRecursion (SaysIn c.count h k) xs → Sits c.count (fates_of c) h q r s
       → Sits c.count (fates_of c) h q r (taking_in c k q s xs)
   takes_in k s [] t a = a
   takes_in k s (y ∷ ys) t a =

@@ -1,6 +1,6 @@
 -- What holds of every flooding that is made by `new` and the calls, card by card: each seat, and each item, says what its history says.
 use Rattle.std.specs.Prelude.{◌≡◌, ℕ, suc, ◌^◌, ◌<◌, ◌≤◌, Bool, true, false, cond, ◌⊎◌, List, is_some, Some, Option, ◌≢◌, nat_lt}
-use Rattle.std.specs.List.{AllByRecursion as All}
+use Rattle.std.specs.List.{AllByRecursion}
 use Rattle.notes.specs.Sets.{has, low}
 use Rattle.cards.specs.Cards.{crashed_in, SoundCards}
 use Rattle.tables.specs.Tables.{ballot_in}
@@ -52,8 +52,8 @@ pub record TiedSeats (x : FloodingState) (k : ℕ) : Type 0 where
   pub past : Past
   pub history : History x.cards.count (fates_of x.cards) past
   pub stands : (p : ℕ) → p < x.cards.count → Stands x.cards.count past x.proposals k p (ballot_in x.decisions k p) (seat_in x.seats k p)
-  pub wire_true : All (SaysIn x.cards.count past k) x.wire
-  pub kept_true : All (SaysIn x.cards.count past k) x.kept
+  pub wire_true : AllByRecursion (SaysIn x.cards.count past k) x.wire
+  pub kept_true : AllByRecursion (SaysIn x.cards.count past k) x.kept
   -- what a running card has sent in a round that the running receiver has not left is under way, kept for that round, or counted
   pub due : (p q r : ℕ) → p < x.cards.count → q < x.cards.count → (q ≢ p) → crashed_in x.cards p ≡ false → crashed_in x.cards q ≡ false
       → 1 ≤ r → r ≤ x.cards.count → r ≤ past.round p → past.round q ≤ r
@@ -68,7 +68,7 @@ pub record SoundFlooding (x : FloodingState) : Type 0 where
   pub proposers : (k p : ℕ) → is_some (ballot_in x.proposals k p) ≡ true → p < x.cards.count
   pub deciders : (k p : ℕ) → is_some (ballot_in x.decisions k p) ≡ true → p < x.cards.count
   pub proposed_sets : (k p s : ℕ) → ballot_in x.proposals k p ≡ Some s → (0 < s) × (s < 2 ^ 32)
-  pub items : All (Underway x.cards) x.wire
+  pub items : AllByRecursion (Underway x.cards) x.wire
   pub tied : (k : ℕ) → k < 32 → TiedSeats x k
 
 -- Between the calls no running card can move.

@@ -1,6 +1,6 @@
 // Examples of note sets, kinds and rankings, run as tests.
 #[cfg(test)]
-mod labels;
+mod label_examples;
 #[cfg(test)]
 mod ranking;
 #[cfg(test)]

@@ -1,6 +1,6 @@
 -- What both interfaces say of the cards, the suspicions, the wire and the work.
 use Rattle.std.specs.Prelude.{◌≡◌, ℕ, ◌<◌, ◌≤◌, true, false, cond, ◌&&◌, ◌||◌, ◌⊎◌, List, [], ◌∷◌, length, ◌==◌, nat_lt}
-use Rattle.std.specs.List.{remove, AllByRecursion as All}
+use Rattle.std.specs.List.{remove, AllByRecursion}
 use Rattle.parts.specs.Views.{Net}
 
 -- The first list is what is left of the second when some of its items leave: a part of it, in its order.
@@ -55,5 +55,5 @@ pub record LawfulNet (v : Net) : Type 0 where
   pub crashed_are_cards : (p : ℕ) → v.crashed p ≡ true → p < v.cards
   pub suspecting_are_cards : (q p : ℕ) → v.suspects q p ≡ true → q < v.cards
   pub suspected_have_crashed : (q p : ℕ) → v.suspects q p ≡ true → v.crashed p ≡ true
-  pub senders_are_cards_or_carrier : All (λ s. (s < v.cards) ⊎ (s ≡ 7)) v.wire
+  pub senders_are_cards_or_carrier : AllByRecursion (λ s. (s < v.cards) ⊎ (s ≡ 7)) v.wire
   pub work_covers_wire : length v.wire ≤ v.work

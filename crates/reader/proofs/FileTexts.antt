@@ -2,7 +2,7 @@
 use Rattle.std.proofs.Common.{◌≡◌, ℕ, ◌+◌, ◌<◌, ◌≤◌, true, false, eqb, ltb, List, [], ◌∷◌, ◌++◌, length, take, is_ok, Ok, Err, Result, sym, refl, ap, ◌∙◌, subst, ⊎_elim, append_assoc, append-nil, arith, length-append}
 use Rattle.std.proofs.lemmas.Bool.Decides.{nat_tests}
 use Rattle.std.proofs.lemmas.Bool.{cases_Bool, cond-true, cond-false, eqb-true, ltb-true}
-use Rattle.std.specs.List.{AllByRecursion as All}
+use Rattle.std.specs.List.{AllByRecursion}
 use Rattle.text.specs.declared.fault.LineFault.{LineFault}
 use Rattle.text.specs.declared.fault.LineFault.TheVariants.{Absent, Wrong}
 use Rattle.text.specs.Faults.{fault_place}
@@ -61,7 +61,7 @@ notes_stop : (k : NoteKind) (count : ℕ) (p : Span) (f : LineFault) → notes_o
 notes_stop kinds.Wear count p f e = lines_stop wear_of anywhere wear_text WearAllowed wear_reads [] count p f (first_err wears (lines_of wear_of count p) f e)
 notes_stop kinds.Label count p f e = lines_stop label_at label_put label_text LabelAllowed label_reads [] count p f (first_err labels (lines_of label_at count p) f e)
 
-notes_back : (k : NoteKind) (ns : List (Note k)) (r : List ℕ) (e : ℕ) → All (NoteAllowed k) ns → length (written_lines (note_text k) ns ++ r) ≤ e
+notes_back : (k : NoteKind) (ns : List (Note k)) (r : List ℕ) (e : ℕ) → AllByRecursion (NoteAllowed k) ns → length (written_lines (note_text k) ns ++ r) ≤ e
     → notes_of k (length ns) (written_lines (note_text k) ns ++ r, e) ≡ Ok (noted_at k (place_of (written_lines (note_text k) ns ++ r, e)) ns, (r, e))
 notes_back kinds.Wear ns r e a h =
     ap (first_by wears) (lines_back wear_of anywhere wear_text WearAllowed wear_reads [] ns r e a h)
@@ -104,8 +104,8 @@ module _ (file : List ℕ) where
   Says (Err f) = FirstFault file f
 
   module _ (c : Contents) (a : ContentsAllowed c) where
-    module _ (ns : List (Note c.kind)) (fine : All (NoteAllowed c.kind) ns) (many : length ns ≡ c.notes) where
-      at_end : (es : List Event) → All EventAllowed es → length es ≡ c.events → (w : Whole) → w ≡ answered (record { contents = c; notes = ns; events = es }) → (q : Span)
+    module _ (ns : List (Note c.kind)) (fine : AllByRecursion (NoteAllowed c.kind) ns) (many : length ns ≡ c.notes) where
+      at_end : (es : List Event) → AllByRecursion EventAllowed es → length es ≡ c.events → (w : Whole) → w ≡ answered (record { contents = c; notes = ns; events = es }) → (q : Span)
           → file ≡ contents_text c ++ (written_lines (note_text c.kind) ns ++ (written_lines event_text es ++ q.0)) → q.1 ≡ length file → Says (ended w q)
       at_end es fits all w same q stands end =
           let s : Plan = record { contents = c; notes = ns; events = es } in

@@ -1,6 +1,6 @@
 -- The lines that are read are those that stand there.
 use Rattle.std.proofs.Common.{◌≡◌, ℕ, zero, suc, ◌+◌, ◌≤◌, List, [], ◌∷◌, ◌++◌, length, Ok, Err, Option, Result, sym, refl, ap, ◌∙◌, subst, inl, inr, append_assoc, append-nil, arith, length-append}
-use Rattle.std.specs.List.{AllByRecursion as All}
+use Rattle.std.specs.List.{AllByRecursion}
 use Rattle.text.specs.declared.fault.LineFault.{LineFault}
 use Rattle.text.specs.Parts.{Span, place_of, fault_at}
 use Rattle.entries.specs.Chains.{and_then}
@@ -47,7 +47,7 @@ module _ {A B : Type 0} (rule : Span → Option A) (put : ℕ → B → A) (text
             ∙ (λ i. sofar ++ (o.1.0 i ∷ put_lines put text (place i) ih.0)),
       )
 
-  pub lines_back : (sofar : List A) (bs : List B) (r : List ℕ) (e : ℕ) → All Fit bs → length (written_lines text bs ++ r) ≤ e
+  pub lines_back : (sofar : List A) (bs : List B) (r : List ℕ) (e : ℕ) → AllByRecursion Fit bs → length (written_lines text bs ++ r) ≤ e
       → lines_after rule sofar (length bs) (written_lines text bs ++ r, e) ≡ Ok (sofar ++ put_lines put text (place_of (written_lines text bs ++ r, e)) bs, (r, e))
   lines_back sofar [] r e a h = ap (λ xs. Ok (xs, (r, e))) (sym (append-nil sofar))
   lines_back sofar (b ∷ bs) r e a h =
@@ -81,7 +81,7 @@ module _ {A B : Type 0} (rule : Span → Option A) (put : ℕ → B → A) (text
             }
       ]
 
-  lines_some : (sofar : List A) (bs : List B) (r : List ℕ) (e : ℕ) → All Fit bs → (xs : List A) × (lines_after rule sofar (length bs) (written_lines text bs ++ r, e) ≡ Ok (xs, (r, e)))
+  lines_some : (sofar : List A) (bs : List B) (r : List ℕ) (e : ℕ) → AllByRecursion Fit bs → (xs : List A) × (lines_after rule sofar (length bs) (written_lines text bs ++ r, e) ≡ Ok (xs, (r, e)))
   lines_some sofar [] r e a = (sofar, refl)
   lines_some sofar (b ∷ bs) r e a =
       let rest = written_lines text bs ++ r in

@@ -1,6 +1,6 @@
 -- What the answers say of the bytes.
 use Rattle.std.specs.Prelude.{◌≡◌, ℕ, ◌<◌, List, [], ◌∷◌, ◌++◌, length, take, Ok, Err, Result, ◌≢◌, slice_index_or}
-use Rattle.std.specs.List.{AllByRecursion as All}
+use Rattle.std.specs.List.{AllByRecursion}
 use Rattle.text.specs.declared.fault.LineFault.{LineFault}
 use Rattle.text.specs.Faults.{fault_place}
 use Rattle.text.specs.Parts.{Span, fault_at}
@@ -24,7 +24,7 @@ NoLine {B} text Ok' tail = (b : B) (more : List ℕ) → Ok' b → tail ≢ text
 -- So many lines of these things stand first, and the rest follows them.
 pub record LinesStand {B : Type 0} (text : B → List ℕ) (Ok' : B → Type 0) (count : ℕ) (p : Span) (rest : Span) (things : List B) : Type 0 where
   pub many : length things ≡ count
-  pub fine : All Ok' things
+  pub fine : AllByRecursion Ok' things
   pub stands : p.0 ≡ written_lines text things ++ rest.0
   pub end : rest.1 ≡ p.1
 
@@ -32,7 +32,7 @@ pub record LinesStand {B : Type 0} (text : B → List ℕ) (Ok' : B → Type 0) 
 pub record LinesStop {B : Type 0} (text : B → List ℕ) (Ok' : B → Type 0) (count : ℕ) (p : Span) (f : LineFault) : Type 0 where
   pub sofar : List B
   pub few : length sofar < count
-  pub fine : All Ok' sofar
+  pub fine : AllByRecursion Ok' sofar
   pub tail : List ℕ
   pub stands : p.0 ≡ written_lines text sofar ++ tail
   pub fault : f ≡ fault_at (tail, p.1)
@@ -64,7 +64,7 @@ pub record BreaksInNotes (file : List ℕ) (f : LineFault) : Type 0 where
   pub contents : Contents
   pub allowed : ContentsAllowed contents
   pub notes : List (Note contents.kind)
-  pub fine : All (NoteAllowed contents.kind) notes
+  pub fine : AllByRecursion (NoteAllowed contents.kind) notes
   pub few : length notes < contents.notes
   pub breaks : Breaks file (contents_text contents ++ written_lines (note_text contents.kind) notes) (NoLine (note_text contents.kind) (NoteAllowed contents.kind)) f
 
@@ -73,10 +73,10 @@ pub record BreaksInEvents (file : List ℕ) (f : LineFault) : Type 0 where
   pub contents : Contents
   pub allowed : ContentsAllowed contents
   pub notes : List (Note contents.kind)
-  pub fine_notes : All (NoteAllowed contents.kind) notes
+  pub fine_notes : AllByRecursion (NoteAllowed contents.kind) notes
   pub all_notes : length notes ≡ contents.notes
   pub events : List Event
-  pub fine : All EventAllowed events
+  pub fine : AllByRecursion EventAllowed events
   pub few : length events < contents.events
   pub breaks : Breaks file (contents_text contents ++ (written_lines (note_text contents.kind) notes ++ written_lines event_text events)) (NoLine event_text EventAllowed) f
 

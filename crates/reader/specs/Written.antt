@@ -1,6 +1,6 @@
 -- A schedule as it is written, and which schedules the format allows.
 use Rattle.std.specs.Prelude.{◌≡◌, ℕ, ◌+◌, ◌≤◌, List, [], ◌∷◌, ◌++◌, length}
-use Rattle.std.specs.List.{AllByRecursion as All}
+use Rattle.std.specs.List.{AllByRecursion}
 use Rattle.notes.specs.declared.wear.Wear.{Wear}
 use Rattle.schedule.specs.declared.contents.NoteKind.{NoteKind}
 use Rattle.schedule.specs.declared.contents.NoteKind.TheVariants as kinds
@@ -36,9 +36,9 @@ written s = contents_text s.contents ++ (written_lines (note_text s.contents.kin
 -- Every number is in its range, and there are as many notes and events as the contents say.
 pub record Fine (s : Plan) : Type 0 where
   pub contents : ContentsAllowed s.contents
-  pub notes : All (NoteAllowed s.contents.kind) s.notes
+  pub notes : AllByRecursion (NoteAllowed s.contents.kind) s.notes
   pub all_notes : length s.notes ≡ s.contents.notes
-  pub events : All EventAllowed s.events
+  pub events : AllByRecursion EventAllowed s.events
   pub all_events : length s.events ≡ s.contents.events
 
 -- and its file is not too long

@@ -2,7 +2,7 @@
 use Rattle.std.specs.Prelude.{◌≡◌, ℕ, ◌^◌, ◌<◌, Bool, true, false, cond, not, ◌&&◌, ◌||◌, ◌⊎◌, List, [], ◌∷◌, length, replicate, is_some, Some, None, Option, ◌==◌, refl}
 use Rattle.std.proofs.Common.{sym, ap, subst, ◌∙◌, inl, inr, ⊎_elim, arith}
 use borrow.Author.Tests.{clash}
-use Rattle.std.specs.List.{slice_get, remove, AllByRecursion as All}
+use Rattle.std.specs.List.{slice_get, remove, AllByRecursion}
 use Rattle.std.proofs.ByRecursion.{All-append, All-weaker}
 use Rattle.std.proofs.lemmas.Bool.{or_cases, or_left, or_right, or_parts, and_parts, and_from, and_left, eq-eqb, not_from_true, not_from_false, cases_Bool, cond-true, cond-false, both_ways}
 use Rattle.parts.specs.Refusals.{propose_answer, carry_answer, lose_answer, crash_answer, suspect_answer}
@@ -188,7 +188,7 @@ lose_made x i g h =
           (ap (λ b. is_some (ballot_in x.decisions k p) || b) (sym (any_split (brings k p) x.wire i t.0 t.1)) ∙ g.due k p u e);
     }
 
-same_items : (c c' : CardState) (t : List (List (Option ℕ))) (xs : List (Item ℕ)) → c'.count ≡ c.count → All (Underway c t) xs → All (Underway c' t) xs
+same_items : (c c' : CardState) (t : List (List (Option ℕ))) (xs : List (Item ℕ)) → c'.count ≡ c.count → AllByRecursion (Underway c t) xs → AllByRecursion (Underway c' t) xs
 same_items c c' t xs e = All-weaker (Underway c t) (Underway c' t) (λ y u. record { card = subst (λ n. y.from < n) (sym e) u.card; proposed = u.proposed }) xs
 
 pub crash_made : (x : RegisterState) (p : ℕ) → MadeRegister x → crash_answer (seen x).net p ≡ 0 → MadeRegister (crash_on x p)

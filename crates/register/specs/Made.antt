@@ -1,6 +1,6 @@
 -- What holds of every register that is made by `new` and the calls.
 use Rattle.std.specs.Prelude.{◌≡◌, ℕ, ◌^◌, ◌<◌, Bool, true, false, ◌&&◌, ◌||◌, List, [], length, is_some, Some, Option, ◌==◌, slice_index_or}
-use Rattle.std.specs.List.{AllByRecursion as All}
+use Rattle.std.specs.List.{AllByRecursion}
 use Rattle.cards.specs.Cards.{CardState, crashed_in, SoundCards}
 use Rattle.tables.specs.Tables.{ballot_in}
 use Rattle.wire.specs.Wires.{any_of}
@@ -28,7 +28,7 @@ pub record MadeRegister (x : RegisterState) : Type 0 where
   pub held_shaped : length x.held ≡ 32
   pub proposers : (k p : ℕ) → is_some (ballot_in x.proposals k p) ≡ true → p < x.cards.count
   pub proposed_sets : (k p s : ℕ) → ballot_in x.proposals k p ≡ Some s → (0 < s) × (s < 2 ^ 32)
-  pub items : All (Underway x.cards x.proposals) x.wire
+  pub items : AllByRecursion (Underway x.cards x.proposals) x.wire
   -- a register holds some card's proposal; a decision is what the register holds, at a card that proposed
   pub held_proposed : (k s : ℕ) → held_in x.held k ≡ Some s → (q : ℕ) × (ballot_in x.proposals k q ≡ Some s)
   pub decided_proposed : (k p : ℕ) → is_some (ballot_in x.decisions k p) ≡ true → is_some (ballot_in x.proposals k p) ≡ true

@@ -1,7 +1,7 @@
 -- `new` and the calls make spreads that hold together.
 use Rattle.std.proofs.Common.{◌≡◌, ℕ, ◌^◌, ◌<◌, ◌≤◌, Bool, true, false, cond, not, ◌&&◌, ◌||◌, eqb, ltb, ◌⊎◌, List, [], ◌∷◌, ◌++◌, length, get_or, set, is_some, Some, None, Option, sym, refl, ap, ◌∙◌, subst, inl, inr, ⊎_elim, arith, length-set}
 use borrow.Author.Tests.{clash}
-use Rattle.std.specs.List.{slice_get, remove, AllByRecursion as All}
+use Rattle.std.specs.List.{slice_get, remove, AllByRecursion}
 use Rattle.std.proofs.ByRecursion.{All-append, All-weaker}
 use Rattle.std.proofs.lemmas.Bool.{or_cases, or_left, or_right, or_parts, and_parts, and_from, eqb-true, eqb-false, eq-eqb, ne_eqb, lt-ltb, not-true, not-false, not_from_false, cases_Bool, cond_both}
 use Rattle.std.proofs.lemmas.Bool.Decides.{nat_tests}

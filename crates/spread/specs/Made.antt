@@ -1,6 +1,6 @@
 -- What holds of every spread that is made by `new` and the calls.
 use Rattle.std.specs.Prelude.{◌≡◌, ℕ, ◌^◌, ◌<◌, ◌≤◌, Bool, true, false, ◌&&◌, ◌||◌, length, is_some, Some, ◌==◌}
-use Rattle.std.specs.List.{AllByRecursion as All}
+use Rattle.std.specs.List.{AllByRecursion}
 use Rattle.notes.specs.Sets.{has}
 use Rattle.cards.specs.Cards.{crashed_in, SoundCards}
 use Rattle.tables.specs.Tables.{poster_in, set_in}
@@ -26,7 +26,7 @@ pub record SoundSpread (x : SpreadState) : Type 0 where
   pub notes : length x.posters ≡ 32
   pub sets : length x.relayed ≡ 6
   pub posters_cards : (m p : ℕ) → poster_in x.posters m ≡ Some p → p < x.cards.count
-  pub items : All (Underway x) x.wire
+  pub items : AllByRecursion (Underway x) x.wire
   pub relayed_posted : (p m : ℕ) → has (set_in x.relayed p) m ≡ true → is_some (poster_in x.posters m) ≡ true
   pub outside : (p : ℕ) → x.cards.count ≤ p → set_in x.relayed p ≡ 0
   pub fits : (p : ℕ) → set_in x.relayed p < 2 ^ 32

@@ -1,7 +1,7 @@
 -- Fields that are cut apart are those that are written with a space between each two.
 use Rattle.std.proofs.Common.{◌≡◌, ℕ, zero, suc, ◌+◌, ◌-◌, ◌<◌, List, [], ◌∷◌, ◌++◌, map, length, Some, None, Option, sym, refl, ap, ◌∙◌, subst, append-nil, arith}
 use Rattle.std.specs.Option.{option_map}
-use Rattle.std.specs.List.{AllByRecursion as All}
+use Rattle.std.specs.List.{AllByRecursion}
 use Rattle.text.specs.Numbers.{numeral}
 use Rattle.text.specs.Parts.{Span, before, after}
 use Rattle.text.specs.Fields.{Cut, number_or, read_field, fields_after, cut_fields}
@@ -51,7 +51,7 @@ abbrev pub placed : ℕ → List (List ℕ) → List Cut
 placed e [] = []
 placed e (w ∷ ws) = read_field (w, e - length (spaced_after ws)) ∷ placed e ws
 
-pub fields_back : (k e : ℕ) (w : List ℕ) (ws : List (List ℕ)) → Free 32 w → All (Free 32) ws → length ws < k → cut_fields k (spaced (w ∷ ws), e) ≡ Some (placed e (w ∷ ws))
+pub fields_back : (k e : ℕ) (w : List ℕ) (ws : List (List ℕ)) → Free 32 w → AllByRecursion (Free 32) ws → length ws < k → cut_fields k (spaced (w ∷ ws), e) ≡ Some (placed e (w ∷ ws))
 fields_back zero e w ws f g h = absurd (omega arith)
 fields_back (suc k) e w [] f g h =
     let c = uncut_back 32 w e f in

@@ -1,6 +1,6 @@
 -- What holds of all items of a list, and of some, as items join, are taken and are let go.
 use Rattle.std.proofs.Common.{◌≡◌, ℕ, zero, suc, ◌<◌, ◌≤◌, Bool, true, cond, ◌||◌, List, [], ◌∷◌, ◌++◌, map, length, take, drop, Some, filter, refl, ap, ◌∙◌, subst, ⊎_elim, arith}
-use Rattle.std.specs.List.{slice_get, remove, AllByRecursion as All}
+use Rattle.std.specs.List.{slice_get, remove, AllByRecursion}
 use Rattle.std.proofs.ByRecursion.{All-append, All-take, All-drop}
 use Rattle.std.proofs.lemmas.Bool.{cases_lt, cond-true, cond_both, or_left, or_right, or_cases}
 use Rattle.std.proofs.lemmas.Bool.Decides.{nat_tests}
@@ -12,24 +12,24 @@ use Rattle.wire.specs.declared.Item.{Item}
 
 -- All items.
 
-pub all_removed : {X : Type 0} (P : X → Type 0) (xs : List X) (i : ℕ) → All P xs → All P (remove xs i)
+pub all_removed : {X : Type 0} (P : X → Type 0) (xs : List X) (i : ℕ) → AllByRecursion P xs → AllByRecursion P (remove xs i)
 all_removed P xs i h = All-append P (take i xs) (drop (suc i) xs) (All-take P i xs h) (All-drop P (suc i) xs h)
 
-pub all_nth : {X : Type 0} (P : X → Type 0) (xs : List X) (i : ℕ) (y : X) → All P xs → slice_get xs i ≡ Some y → P y
+pub all_nth : {X : Type 0} (P : X → Type 0) (xs : List X) (i : ℕ) (y : X) → AllByRecursion P xs → slice_get xs i ≡ Some y → P y
 all_nth P [] i y h e = absurd (let z : ◌≡◌ {A = ℕ} 0 1 = cc in omega arith)
 all_nth P (x ∷ xs) zero y h e = let z : x ≡ y = cc in subst P z h.0
 all_nth P (x ∷ xs) (suc i) y h e = all_nth P xs i y h.1 e
 
-pub all_left : {X : Type 0} (P Q : X → Type 0) (keep : X → Bool) (xs : List X) → ((x : X) → P x → keep x ≡ true → Q x) → All P xs → All Q (filter keep xs)
+pub all_left : {X : Type 0} (P Q : X → Type 0) (keep : X → Bool) (xs : List X) → ((x : X) → P x → keep x ≡ true → Q x) → AllByRecursion P xs → AllByRecursion Q (filter keep xs)
 all_left P Q keep [] f h = h
 all_left P Q keep (x ∷ xs) f h =
-    cond_both (keep x) (x ∷ filter keep xs) (filter keep xs) (All Q) (λ t. (f x h.0 t, all_left P Q keep xs f h.1)) (λ _. all_left P Q keep xs f h.1)
+    cond_both (keep x) (x ∷ filter keep xs) (filter keep xs) (AllByRecursion Q) (λ t. (f x h.0 t, all_left P Q keep xs f h.1)) (λ _. all_left P Q keep xs f h.1)
 
-pub all_sent_are : {L : Type 0} (P : Item L → Type 0) (c : CardState) (from : ℕ) (load : L) (k : ℕ) → ((to : ℕ) → to < k → goes_to c from to ≡ true → P (item from to load)) → All P (sent c from load k)
+pub all_sent_are : {L : Type 0} (P : Item L → Type 0) (c : CardState) (from : ℕ) (load : L) (k : ℕ) → ((to : ℕ) → to < k → goes_to c from to ≡ true → P (item from to load)) → AllByRecursion P (sent c from load k)
 all_sent_are P c from load zero f = tt
 all_sent_are P c from load (suc k) f =
     All-append P (sent c from load k) (cond (goes_to c from k) (item from k load ∷ []) []) (all_sent_are P c from load k (λ to l. f to (omega arith)))
-    (cond_both (goes_to c from k) (item from k load ∷ []) [] (All P) (λ t. (f k (omega arith) t, tt)) (λ _. tt))
+    (cond_both (goes_to c from k) (item from k load ∷ []) [] (AllByRecursion P) (λ t. (f k (omega arith) t, tt)) (λ _. tt))
 
 -- Some item.
 

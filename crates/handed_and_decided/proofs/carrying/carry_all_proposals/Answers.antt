@@ -3,8 +3,8 @@ use Rattle.parts.specs.Shown.{told}
 use Rattle.handed_and_decided.proofs.Emptied.{no_item_left, no_turn_left, carried_made, emptied}
 use Rattle.handed_and_decided.proofs.carrying.carry_all_proposals.Goals as goal
 
-pub returns-else-wire-len-gt0 : goal.returns-else-wire-len-gt0
-returns-else-wire-len-gt0 g c =
+pub returns-else-wire_len-gt0 : goal.returns-else-wire_len-gt0
+returns-else-wire_len-gt0 g c =
     let b = g.C.Consensus in
     let m = g.met.C.Consensus.meaning in
     let e = sym (no_item_left b.wire b.carrying c.loop-left.left (b.state c.loop-left.consensus) (omega arith)) ∙ c.loop-left.invariant in
