@@ -12,7 +12,7 @@ use Rattle.parts.specs.Refusals.{post_answer, carry_answer, lose_answer, crash_a
 use Rattle.parts.proofs.Accepted.{post_accepted, lose_accepted, crash_accepted, suspect_accepted}
 use Rattle.cards.specs.Cards.{crashed_in, with_crash}
 use Rattle.tables.specs.Tables.{poster_in, set_in, with_note}
-use Rattle.wire.specs.Wires.{item, sent, elsewhere, any_of}
+use Rattle.wire.specs.Wires.{sent, elsewhere, any_of}
 use Rattle.wire.specs.declared.Item.{Item}
 use Rattle.wire.proofs.Items.{all_removed, all_nth, all_left, all_sent_are, any_append, any_split, any_left, any_sent}
 use Rattle.cards.proofs.Lists.{written, same_all}

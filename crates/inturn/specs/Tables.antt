@@ -5,7 +5,7 @@ use Rattle.std.proofs.lemmas.Bool.{cases_eq, eq-eqb, cond-true, cond-false, both
 use Rattle.notes.specs.Sets.{has}
 use Rattle.notes.proofs.Counting.{pigeonhole}
 use Rattle.inturn.specs.declared.post.Post.{Post}
-use Rattle.inturn.specs.Turns.{post_of, post_at, counts, in_turn, written}
+use Rattle.inturn.specs.Turns.{post_of, post_at, in_turn, written}
 use Rattle.inturn.specs.Layers.{Agrees}
 use Rattle.inturn.specs.Counts.{counted_place, place_counted, clear_each, clear_all, same_notes}
 

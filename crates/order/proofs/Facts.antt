@@ -7,11 +7,11 @@ use Rattle.parts.specs.Broadcasting.{UniformAgreement}
 use Rattle.parts.specs.Broadcasting as broadcast
 use Rattle.parts.specs.Deciding as consensus
 use Rattle.parts.proofs.Options.{some_held}
-use Rattle.order.specs.Words.{In, among, NoneTwice, Begins, sum, one_if, step_bound}
+use Rattle.order.specs.Words.{In, among, NoneTwice, Begins, one_if, step_bound}
 use Rattle.order.specs.Views.{Ledger, IsPosted, posts, Ranks, Rest}
 use Rattle.order.specs.Law.{OneOrder}
 use Rattle.order.proofs.Lists.{among_append, none_twice_append, sum_le, sum_const, pigeons}
-use Rattle.order.proofs.Invariant.{LogAfter, SoundProposal, spent, Consistent}
+use Rattle.order.proofs.Invariant.{LogAfter, spent, Consistent}
 use Rattle.order.proofs.Invariant.LogAfter.{at_first, one_more}
 
 abbrev Agreed : (ℕ → ℕ → Option ℕ) → Type 0

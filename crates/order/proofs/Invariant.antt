@@ -1,5 +1,5 @@
 -- What every run keeps: each log is made of decisions, each proposal brings new notes, and each step is paid for.
-use Rattle.std.proofs.Common.{◌≡◌, ℕ, suc, ◌+◌, ◌*◌, ◌<◌, ◌≤◌, false, List, [], ◌++◌, Some, None, Option}
+use Rattle.std.proofs.Common.{◌≡◌, ℕ, suc, ◌+◌, ◌*◌, ◌<◌, ◌≤◌, false, List, [], ◌++◌, Some, Option}
 use Rattle.parts.specs.Views.{BroadcastView, ConsensusView}
 use Rattle.parts.specs.Nets.{SameCards}
 use Rattle.order.specs.Words.{In, among, sum, one_if}

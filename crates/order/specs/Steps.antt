@@ -1,8 +1,8 @@
 -- The calls on a carrier, as relations between what stood before and what stands after. What a call may change of the broadcast and
 -- of the consensus is what the two interfaces mean by it; nothing more is known of them.
-use Rattle.std.specs.Prelude.{◌≡◌, ℕ, suc, ◌+◌, ◌<◌, Bool, true, false, List, [], ◌++◌, Some, Option, ◌≢◌}
-use Rattle.parts.specs.Views.{Net, BroadcastView, ConsensusView, Runs}
-use Rattle.parts.specs.Refusals.{post_answer, carry_answer, lose_answer, crash_answer, suspect_answer, propose_answer}
+use Rattle.std.specs.Prelude.{◌≡◌, ℕ, suc, ◌+◌, ◌<◌, false, List, [], ◌++◌, Some, ◌≢◌}
+use Rattle.parts.specs.Views.{BroadcastView, ConsensusView, Runs}
+use Rattle.parts.specs.Refusals.{post_answer, propose_answer}
 use Rattle.parts.specs.Broadcasting as broadcast
 use Rattle.parts.specs.Deciding as consensus
 use Rattle.order.specs.Words.{In, among}

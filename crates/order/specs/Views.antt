@@ -1,5 +1,5 @@
 -- What the carrier shows beside the views of its broadcast and its consensus.
-use Rattle.std.specs.Prelude.{◌≡◌, ℕ, ◌<◌, Bool, true, false, List, [], Some, None, Option}
+use Rattle.std.specs.Prelude.{◌≡◌, ℕ, ◌<◌, true, false, List, [], Some, None}
 use Rattle.parts.specs.Views.{BroadcastView, ConsensusView, Runs}
 use Rattle.order.specs.Words.{In, among, NoneTwice, sum, one_if}
 

@@ -1,5 +1,7 @@
 // The law of the order: whatever the broadcast and the consensus below, as long as they mean what a broadcast and a consensus mean,
 // every card of a carrier logs the notes in one order.
+#![tactic(auto)]
+
 ghost use Rattle.std.specs.Prelude.{◌≡◌};
 ghost use Rattle.order.specs.Words.{step_bound};
 ghost use Rattle.order.specs.Law.{OrderLaw};

@@ -1,21 +1,21 @@
 -- `new` and the calls make spreads that hold together.
-use Rattle.std.proofs.Common.{◌≡◌, ℕ, ◌^◌, ◌<◌, ◌≤◌, Bool, true, false, cond, not, ◌&&◌, ◌||◌, eqb, ltb, ◌⊎◌, List, [], ◌∷◌, ◌++◌, length, get_or, set, is_some, Some, None, Option, sym, refl, ap, ◌∙◌, subst, inl, inr, ⊎_elim, arith, length-set}
+use Rattle.std.proofs.Common.{◌≡◌, ℕ, ◌<◌, Bool, true, false, ◌&&◌, ◌||◌, eqb, length, set, is_some, Some, None, sym, refl, ap, ◌∙◌, subst, ⊎_elim, arith, length-set}
 use borrow.Author.Tests.{clash}
-use Rattle.std.specs.List.{slice_get, remove, AllByRecursion}
+use Rattle.std.specs.List.{slice_get, remove}
 use Rattle.std.proofs.ByRecursion.{All-append, All-weaker}
-use Rattle.std.proofs.lemmas.Bool.{or_cases, or_left, or_right, or_parts, and_parts, and_from, eqb-true, eqb-false, eq-eqb, ne_eqb, lt-ltb, not-true, not-false, not_from_false, cases_Bool, cond_both}
+use Rattle.std.proofs.lemmas.Bool.{or_cases, or_left, or_right, or_parts, and_parts, and_from, eqb-true, eqb-false, eq-eqb, ne_eqb, not-true, not_from_false, cases_Bool}
 use Rattle.std.proofs.lemmas.Bool.Decides.{nat_tests}
 use Rattle.notes.specs.Sets.{has}
 use Rattle.notes.proofs.Bits.{has_none}
-use Rattle.cards.specs.Cards.{CardState, crashed_in, with_crash}
-use Rattle.tables.specs.Tables.{poster_in, set_in, with_note}
-use Rattle.wire.specs.Wires.{item, goes_to, sent, elsewhere, any_of}
+use Rattle.cards.specs.Cards.{crashed_in}
+use Rattle.tables.specs.Tables.{poster_in, set_in}
+use Rattle.wire.specs.Wires.{sent, elsewhere, any_of}
 use Rattle.wire.specs.declared.Item.{Item}
 use Rattle.tables.proofs.Changes.{posted_more, posted_below, poster_each, noted_more, noted_others_stay, noted_fits}
 use Rattle.wire.proofs.Items.{all_removed, all_nth, all_left, all_sent_are, any_append, any_split, any_left, any_sent}
 use Rattle.cards.proofs.Lists.{same_all}
 use Rattle.cards.proofs.Nets.{new_sound, crash_sound, crash_more, suspect_sound}
-use Rattle.spread.specs.Spread.{SpreadState, lacks, new_spread, relay_on, meet_on, posted_by, post_on, without_item, carry_on, crash_on, suspect_on}
+use Rattle.spread.specs.Spread.{SpreadState, lacks, new_spread, relay_on, meet_on, posted_by, post_on, without_item, crash_on, suspect_on}
 use Rattle.spread.specs.Made.{Underway, brings, SoundSpread, MadeSpread}
 use Rattle.spread.proofs.Rooms.{lacks_parts, lacks_not, meet_cases}
 

@@ -1,13 +1,12 @@
 -- Each call, from what it makes of a spread to what the interface says of its cards, its wire and its work.
-use Rattle.std.proofs.Common.{◌≡◌, ℕ, ◌+◌, ◌<◌, ◌≤◌, true, false, ◌&&◌, ◌||◌, ◌⊎◌, List, [], length, is_some, Some, sym, refl, ap, ◌∙◌, subst, inl, inr, ⊎_elim, arith}
+use Rattle.std.proofs.Common.{◌≡◌, ℕ, ◌+◌, ◌<◌, ◌≤◌, false, ◌⊎◌, length, Some, refl, ◌∙◌, inl, arith}
 use Rattle.std.specs.List.{slice_get}
 use Rattle.std.proofs.ByRecursion.{All-map, All-weaker}
-use Rattle.std.proofs.lemmas.Bool.{both_ways, or_left, eq-eqb}
-use Rattle.notes.specs.Sets.{has}
+use Rattle.std.proofs.lemmas.Bool.{or_left, eq-eqb}
 use Rattle.parts.specs.Views.{Net}
 use Rattle.parts.specs.Nets.{NewNet, NetCarried, NetLost, NetCrashed, NetSuspected, LawfulNet}
 use Rattle.cards.specs.Cards.{crashed_in, net_of}
-use Rattle.tables.specs.Tables.{poster_in, set_in}
+use Rattle.tables.specs.Tables.{set_in}
 use Rattle.wire.specs.Wires.{senders, elsewhere}
 use Rattle.wire.specs.declared.Item.{Item}
 use Rattle.tables.proofs.Changes.{posted_more, noted_others_stay}

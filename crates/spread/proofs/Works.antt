@@ -1,13 +1,11 @@
 -- The work: by how much a post raises it, and that nothing else does.
-use Rattle.std.proofs.Common.{◌≡◌, ℕ, zero, suc, ◌+◌, ◌-◌, ◌*◌, ◌<◌, ◌≤◌, Bool, true, false, cond, not, ◌&&◌, ◌||◌, eqb, List, ◌++◌, length, set, is_some, Some, None, sym, refl, ap, ◌∙◌, ⊎_elim, mul-le-mul, mul-le-mul_left, mul-zero, mul-one, mul-add, arith}
-use Rattle.std.specs.List.{remove}
+use Rattle.std.proofs.Common.{◌≡◌, ℕ, ◌+◌, ◌-◌, ◌*◌, ◌<◌, ◌≤◌, true, false, length, is_some, None, refl, ap, mul-le-mul, mul-le-mul_left, mul-zero, mul-one, mul-add, arith}
 use Rattle.std.proofs.lemmas.List.Edits.{length-remove}
 use Rattle.std.proofs.lemmas.List.{length-append}
-use Rattle.std.proofs.lemmas.Bool.{cases_Bool, cond_both, or_parts, or_left, or_right, and_parts, and_from, and_left, and_right, eq-eqb, not-true, not_from_true, not_from_false}
+use Rattle.std.proofs.lemmas.Bool.{and_from, and_left, and_right, eq-eqb, not_from_false}
 use Rattle.std.proofs.lemmas.Bool.Decides.{nat_tests}
-use Rattle.notes.specs.Sets.{has}
-use Rattle.cards.specs.Cards.{crashed_in, SoundCards}
-use Rattle.tables.specs.Tables.{poster_in, set_in, with_note}
+use Rattle.cards.specs.Cards.{crashed_in}
+use Rattle.tables.specs.Tables.{poster_in}
 use Rattle.wire.specs.Wires.{sent, elsewhere}
 use Rattle.tables.proofs.Changes.{posted_more, noted_more}
 use Rattle.wire.proofs.Items.{length_left}
@@ -15,7 +13,7 @@ use Rattle.cards.proofs.Lists.{same_all}
 use Rattle.cards.proofs.Nets.{crash_more}
 use Rattle.wire.proofs.Wires.{length_sent_others}
 use Rattle.spread.specs.Counts.{pairs}
-use Rattle.spread.specs.Spread.{SpreadState, lacks, owes, spread_work, new_spread, relay_on, meet_on, posted_by, post_on, without_item, crash_on, suspect_on}
+use Rattle.spread.specs.Spread.{SpreadState, lacks, owes, spread_work, new_spread, relay_on, meet_on, posted_by, without_item, crash_on, suspect_on}
 use Rattle.spread.specs.Made.{SoundSpread}
 use Rattle.spread.proofs.Pairs.{pairs_none, pairs_le, pairs_lt, pairs_grow}
 use Rattle.spread.proofs.Rooms.{lacks_parts, meet_cases}

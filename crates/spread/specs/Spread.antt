@@ -1,5 +1,5 @@
 -- Notes that spread by relaying: what the state holds, what is seen of it, and what each accepted call makes of it.
-use Rattle.std.specs.Prelude.{ℕ, ◌+◌, ◌-◌, ◌*◌, Bool, cond, not, ◌&&◌, List, [], ◌++◌, length, set, replicate, is_some, Some, None, Option, nat_lt, slice_set}
+use Rattle.std.specs.Prelude.{ℕ, ◌+◌, ◌-◌, ◌*◌, Bool, cond, not, ◌&&◌, List, [], ◌++◌, length, replicate, is_some, Some, None, Option, nat_lt, slice_set}
 use Rattle.std.specs.List.{slice_get, remove}
 use Rattle.notes.specs.Sets.{has}
 use Rattle.cards.specs.Cards.{CardState, cards_of, crashed_in, new_cards, with_crash, with_suspicion}

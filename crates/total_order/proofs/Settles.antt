@@ -1,5 +1,5 @@
 -- Settling, step by step.
-use Rattle.std.proofs.Common.{◌≡◌, ℕ, zero, suc, ◌+◌, true, false, refl, ap, ◌∙◌}
+use Rattle.std.proofs.Common.{◌≡◌, ℕ, zero, suc, true, false, refl, ap, ◌∙◌}
 use Rattle.std.proofs.lemmas.Bool.{cond-true, cond-false}
 use Rattle.parts.specs.declared.broadcast.Broadcast.{Ghosts as Broadcasts}
 use Rattle.parts.specs.declared.consensus.Consensus.{Ghosts as Consensuses}

@@ -1,6 +1,5 @@
-use Rattle.std.proofs.Common.{◌≡◌, length, sym, refl, ap, ◌∙◌, arith}
+use Rattle.std.proofs.Common.{◌≡◌, length, ap, arith}
 use Rattle.tables.specs.Tables.{card_sets_of}
-use Rattle.wire.specs.Wires.{items_of}
 use Rattle.spread.specs.Counts.{unrelayed}
 use Rattle.spread.proofs.Rooms.{relay_room}
 use Rattle.spread.proofs.state.Spread.relay.Goals as goal

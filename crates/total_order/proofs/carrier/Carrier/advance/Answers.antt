@@ -1,6 +1,6 @@
-use Rattle.std.proofs.Common.{◌≡◌, ℕ, ◌<◌, ◌≤◌, length, Some, None, sym, refl, ap, ◌∙◌, arith}
+use Rattle.std.proofs.Common.{◌<◌, ◌≤◌, length, None, ap, ◌∙◌, arith}
 use Rattle.std.proofs.lemmas.Bool.{lt-ltb, le-ltb}
-use Rattle.total_order.specs.Carrying.{Carrying, taker, proposer, take_or_propose, advanced}
+use Rattle.total_order.specs.Carrying.{proposer, take_or_propose, advanced}
 use Rattle.total_order.specs.Models.{model}
 use Rattle.total_order.proofs.Replies.{pick, pass}
 use Rattle.total_order.proofs.carrier.Carrier.advance.Goals as goal

@@ -1,4 +1,4 @@
-use Rattle.std.proofs.Common.{◌≡◌, ℕ, suc, ◌+◌, ◌-◌, sym, ap, ◌∙◌, arith}
+use Rattle.std.proofs.Common.{◌≡◌, suc, ◌+◌, ◌-◌, sym, ap, ◌∙◌, arith}
 use Rattle.total_order.specs.Carrying.{settled, settle_steps}
 use Rattle.total_order.specs.Models.{model}
 use Rattle.total_order.proofs.Settles.{settled_at_rest, no_steps_at_rest, settled_next, one_step_more, settled_by_none, no_steps_by_none}

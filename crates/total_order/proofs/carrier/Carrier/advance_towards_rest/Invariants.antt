@@ -1,4 +1,4 @@
-use Rattle.std.proofs.Common.{◌≡◌, ℕ, ◌+◌, ◌-◌, ◌≤◌}
+use Rattle.std.proofs.Common.{◌≡◌, ◌+◌, ◌-◌, ◌≤◌}
 use Rattle.total_order.specs.Carrying.{settled, settle_steps}
 use Rattle.total_order.specs.Models.{model}
 use Rattle.total_order.proofs.carrier.Carrier.advance_towards_rest.Given as goal

@@ -1,8 +1,6 @@
-use Rattle.std.proofs.Common.{◌≡◌, [], length, get_or, set, sym, refl, ap, ◌∙◌, arith}
+use Rattle.std.proofs.Common.{[], refl, arith}
 use Rattle.std.proofs.lemmas.List.{map-set, get_or-map}
-use Rattle.logs.specs.Models.{list_of, order_of}
-use Rattle.logs.specs.Orders.{appended}
-use Rattle.notes.specs.Models.{bits}
+use Rattle.logs.specs.Models.{list_of}
 use Rattle.total_order.proofs.carrier.Carrier.append.Goals as goal
 
 pub returns : goal.returns

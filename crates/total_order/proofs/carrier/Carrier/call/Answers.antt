@@ -1,7 +1,4 @@
-use Rattle.std.proofs.Common.{◌≡◌, ℕ, Bool, sym, ap, ◌∙◌}
-use Rattle.parts.specs.declared.broadcast.Broadcast.{Ghosts as Broadcasts}
-use Rattle.parts.specs.declared.consensus.Consensus.{Ghosts as Consensuses}
-use Rattle.total_order.specs.Carrying.{Carrying}
+use Rattle.std.proofs.Common.{ℕ, Bool, sym, ap, ◌∙◌}
 use Rattle.total_order.specs.Calls.{Told, told_by, Outcome, calling}
 use Rattle.total_order.specs.Models.{model}
 use Rattle.total_order.proofs.carrier.Carrier.call.Goals as goal

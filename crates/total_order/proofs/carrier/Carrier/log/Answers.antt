@@ -1,4 +1,4 @@
-use Rattle.std.proofs.Common.{◌≡◌, ◌<◌, [], map, length, sym, ap, ◌∙◌, arith}
+use Rattle.std.proofs.Common.{[], map, sym, ◌∙◌, arith}
 use Rattle.std.proofs.lemmas.List.{get_or_past, length-map, get_or-map}
 use Rattle.logs.specs.Models.{list_of}
 use Rattle.total_order.proofs.carrier.Carrier.log.Goals as goal

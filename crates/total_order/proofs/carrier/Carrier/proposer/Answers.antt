@@ -1,4 +1,4 @@
-use Rattle.std.proofs.Common.{◌≡◌, ℕ, ◌<◌, Bool, eqb, sym, refl, ap, ◌∙◌, arith}
+use Rattle.std.proofs.Common.{◌≡◌, ℕ, ◌<◌, Bool, eqb, sym, ap, ◌∙◌, arith}
 use Rattle.logs.specs.Orders.{lowest_that}
 use Rattle.logs.proofs.Lowest.{lowest_none_more, lowest_found}
 use Rattle.total_order.specs.Carrying.{card_count, propose_reply, proposer}
