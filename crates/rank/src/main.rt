@@ -4,7 +4,7 @@ mod listing;
 use crate::listing::print_ranked;
 use anyhow::anyhow;
 use reader::read::read;
-use reader::schedule::{Notes, Schedule, Unread};
+use reader::file::{Notes, Schedule, Unread};
 use std::io::Read;
 
 fn print_notes(rt: &HostRuntime, notes: Notes<'_>) -> anyhow::Result<()> {

@@ -5,7 +5,7 @@ mod table;
 use faults::{BodyFault, FileFault};
 use files::{BASE, longest, padded, spoiled};
 use reader::read::read;
-use reader::schedule::{Notes, Schedule, Unread};
+use reader::file::{Notes, Schedule, Unread};
 use std::io;
 use table::unescaped;
 use text::fault::LineFault;
