@@ -23,7 +23,7 @@ pub trait OneLine<'a>: Sized {
 
 // What the first line says, and what follows it.
 pub fn first_line<'a, T: OneLine<'a>>(rest: Part<'a>) -> Result<(T, Part<'a>), LineFault>
-    ensures { seen_line said result ≡ line_by rule (part_of rest.entry) }
+    ensures { seen_line T.said result ≡ line_by T.rule (part_of rest.entry) }
 {
     let place = rest.place();
     let (line, after) = rest.line()?;

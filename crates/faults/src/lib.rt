@@ -1,4 +1,6 @@
 // What can be wrong with a schedule file.
+#![tactic(auto)]
+
 ghost use Rattle.std.specs.Prelude.{◌≡◌, Some};
 ghost use Rattle.faults.specs.Faults.{cause_of, place_of, layer_of, layer_word, fault_text};
 

@@ -1,10 +1,12 @@
 // Ranks the notes of a schedule file: the file on standard input, the notes in ranking order on standard output.
+#![tactic(auto)]
+
 mod listing;
 
 use crate::listing::print_ranked;
 use anyhow::anyhow;
+use reader::file::{Notes, Schedule, Unread};
 use reader::read::read;
-use reader::schedule::{Notes, Schedule, Unread};
 use std::io::Read;
 
 fn print_notes(rt: &HostRuntime, notes: Notes<'_>) -> anyhow::Result<()> {

@@ -1,5 +1,5 @@
 -- The file that is accepted is the written form of its schedule; the first fault stands where what was read ends.
-use Rattle.std.proofs.Common.{◌≡◌, ℕ, ◌+◌, ◌<◌, ◌≤◌, true, false, eqb, ltb, List, [], ◌∷◌, ◌++◌, length, take, is_ok, Ok, Err, Result, sym, refl, ap, ◌∙◌, subst, ⊎_elim, append_assoc, append-nil, arith, length-append}
+use Rattle.std.proofs.Common.{◌≡◌, ℕ, ◌<◌, ◌≤◌, true, false, eqb, ltb, List, [], ◌∷◌, ◌++◌, length, take, is_ok, Ok, Err, Result, sym, refl, ap, ◌∙◌, subst, ⊎_elim, append_assoc, append-nil, arith, length-append}
 use Rattle.std.proofs.lemmas.Bool.Decides.{nat_tests}
 use Rattle.std.proofs.lemmas.Bool.{cases_Bool, cond-true, cond-false, eqb-true, ltb-true}
 use Rattle.std.specs.List.{AllByRecursion}
@@ -23,9 +23,9 @@ use Rattle.schedule.specs.Written.{contents_lines, ContentsAllowed, contents_tex
 use Rattle.entries.proofs.NoteLaws.{wear_reads, label_reads}
 use Rattle.entries.proofs.EventLaws.{event_reads}
 use Rattle.schedule.proofs.ContentsWhole.{contents_say, contents_read_back}
-use Rattle.reader.specs.declared.schedule.Schedule.{Schedule}
-use Rattle.reader.specs.declared.schedule.Unread.{Unread}
-use Rattle.reader.specs.declared.schedule.Unread.TheVariants.{Fault, NoMemory}
+use Rattle.reader.specs.declared.file.Schedule.{Schedule}
+use Rattle.reader.specs.declared.file.Unread.{Unread}
+use Rattle.reader.specs.declared.file.Unread.TheVariants.{Fault, NoMemory}
 use Rattle.reader.specs.Sections.{end_of, Noted, wears, labels, first_by, notes_of}
 use Rattle.reader.specs.Files.{Whole, whole_in, notes_fault, events_fault, ended, schedule_of, contents_in, Answers}
 use Rattle.reader.specs.Written.{Note, note_text, NoteAllowed, Plan, written, Fine, Allowed, noted_at, answered}

@@ -14,11 +14,11 @@ use Rattle.entries.specs.Chains.{and_then, map_err}
 use Rattle.entries.specs.Lines.{lines_of}
 use Rattle.entries.specs.Events.{event_of}
 use Rattle.schedule.specs.Contents.{contents_of}
-use Rattle.reader.specs.declared.schedule.Notes.{Notes as NotesRead}
-use Rattle.reader.specs.declared.schedule.Notes.TheVariants.{Wears, Labels}
-use Rattle.reader.specs.declared.schedule.Schedule.{Schedule}
-use Rattle.reader.specs.declared.schedule.Unread.{Unread}
-use Rattle.reader.specs.declared.schedule.Unread.TheVariants.{Fault, NoMemory}
+use Rattle.reader.specs.declared.file.Notes.{Notes as NotesRead}
+use Rattle.reader.specs.declared.file.Notes.TheVariants.{Wears, Labels}
+use Rattle.reader.specs.declared.file.Schedule.{Schedule}
+use Rattle.reader.specs.declared.file.Unread.{Unread}
+use Rattle.reader.specs.declared.file.Unread.TheVariants.{Fault, NoMemory}
 use Rattle.reader.specs.Sections.{Noted, wears, labels, notes_of}
 
 -- What a schedule stands for.

@@ -11,9 +11,9 @@ use Rattle.faults.specs.declared.FileFault.{FileFault}
 use Rattle.faults.specs.declared.FileFault.TheVariants.{Long, Body, Surplus, Contents as InContents}
 use Rattle.entries.specs.Written.{event_text, EventAllowed, written_lines, line_itself}
 use Rattle.schedule.specs.Written.{contents_lines, ContentsAllowed, contents_text}
-use Rattle.reader.specs.declared.schedule.Schedule.{Schedule}
-use Rattle.reader.specs.declared.schedule.Unread.{Unread}
-use Rattle.reader.specs.declared.schedule.Unread.TheVariants.{Fault, NoMemory}
+use Rattle.reader.specs.declared.file.Schedule.{Schedule}
+use Rattle.reader.specs.declared.file.Unread.{Unread}
+use Rattle.reader.specs.declared.file.Unread.TheVariants.{Fault, NoMemory}
 use Rattle.reader.specs.Files.{Whole, whole_in}
 use Rattle.reader.specs.Written.{Note, note_text, NoteAllowed, Plan, written, Fine, Allowed, answered}
 

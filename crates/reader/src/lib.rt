@@ -1,5 +1,7 @@
 // Reading whole schedule files.
+#![tactic(auto)]
+
 pub mod check;
+pub mod file;
 pub mod read;
-pub mod schedule;
 pub mod section;

@@ -7,7 +7,7 @@ ghost use Rattle.reader.specs.Files.{schedule_of, Holds, NotesHold, EventsHold, 
 ghost use Rattle.reader.specs.Says.{ReadSays};
 
 use crate::check::check;
-use crate::schedule::{Notes, Schedule, Unread};
+use crate::file::{Notes, Schedule, Unread};
 use crate::section::read_lines;
 use entries::event::Event;
 use faults::{BodyFault, FileFault, LONGEST};

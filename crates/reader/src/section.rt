@@ -21,7 +21,7 @@ pub(crate) fn check_lines<'a, T: OneLine<'a> + Drop>(
     rest: Part<'a>,
     count: u32,
 ) -> Result<Part<'a>, LineFault>
-    ensures { end_seen result ≡ end_of (lines_of rule count (part_of rest.entry)) }
+    ensures { end_seen result ≡ end_of (lines_of T.rule count (part_of rest.entry)) }
 {
     let mut left = rest;
     for _i in 0..count {
@@ -39,9 +39,9 @@ pub(crate) fn read_lines<'a, T: OneLine<'a> + Drop>(
     rest: Part<'a>,
     count: u32,
 ) -> Result<(Vec<T>, Part<'a>), LineFault>
-    requires room_value { room.items ≡ [] }
-    requires count_len_bound { vec_len room + count ≤ vec_capacity room }
-    ensures { items_seen said result ≡ lines_of rule count (part_of rest.entry) }
+    requires empty { room.items ≡ [] }
+    requires fits { vec_len room + count ≤ vec_capacity room }
+    ensures { items_seen T.said result ≡ lines_of T.rule count (part_of rest.entry) }
 {
     let mut out = room;
     let mut left = rest;

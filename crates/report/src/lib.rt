@@ -14,7 +14,7 @@ use carrier_calls::call::Call;
 use event_calls::calls_of;
 use faults::FileFault;
 use reader::read::read;
-use reader::schedule::{Notes, Schedule, Unread};
+use reader::file::{Notes, Schedule, Unread};
 use schedule::contents::Pile;
 use std::alloc::{AllocError, Global};
 

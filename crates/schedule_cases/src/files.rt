@@ -1,6 +1,4 @@
 // Files that are made, and not written out in the table.
-ghost use Rattle.std.specs.Prelude.{◌<◌};
-
 use std::alloc::{AllocError, Global};
 
 pub const BASE: &[u8] =

@@ -1,11 +1,13 @@
 // What the reader answers to each file of a table, and to files that are made here.
+#![tactic(auto)]
+
 mod files;
 mod table;
 
 use faults::{BodyFault, FileFault};
 use files::{BASE, longest, padded, spoiled};
+use reader::file::{Notes, Schedule, Unread};
 use reader::read::read;
-use reader::schedule::{Notes, Schedule, Unread};
 use std::io;
 use table::unescaped;
 use text::fault::LineFault;

@@ -1,5 +1,5 @@
 -- How lines and fields are written.
-use Rattle.std.specs.Prelude.{◌≡◌, ℕ, List, [], ◌∷◌, ◌++◌, decimal, ◌≢◌}
+use Rattle.std.specs.Prelude.{ℕ, List, [], ◌∷◌, ◌++◌, decimal, ◌≢◌}
 use Rattle.text.specs.Fields.{Cut, number, word, label}
 
 -- bytes none of which is `stop`

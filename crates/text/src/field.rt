@@ -10,7 +10,7 @@ use crate::part::Part;
 use labels::Label;
 
 // A word and a label are parts of the file, which know their place.
-#[derive(Clone, Copy)]
+#[derive(Clone, Copy, Debug)]
 pub enum Field<'a> {
     // Decimal digits of a number of up to 32 bits, without leading zeros.
     Number(u32),
@@ -21,7 +21,7 @@ pub enum Field<'a> {
 }
 
 // The fields of a line; no line of a schedule has more than four.
-#[derive(Clone, Copy)]
+#[derive(Clone, Copy, Debug)]
 pub enum Fields<'a> {
     One(Field<'a>),
     Two(Field<'a>, Field<'a>),

@@ -4,7 +4,7 @@ use Rattle.reader.specs.Sections.{wears, first_by, notes_of}
 use Rattle.reader.proofs.FileLaws.{itself}
 use Rattle.reader.proofs.read.read_notes.Goals as goal
 
-pub returns-in-Ok-read-lines : goal.returns-in-Ok-read-lines
-returns-in-Ok-read-lines c =
+pub returns-in-Ok-read_lines : goal.returns-in-Ok-read_lines
+returns-in-Ok-read_lines c =
     ap (λ k. notes_of k c.args.count (part_of c.args.rest)) c.in-Wear.is
-    ∙ ap (first_by wears) (itself _ _ _ c.in-Ok-read-lines.ensures)
+    ∙ ap (first_by wears) (itself _ _ _ c.in-Ok-read_lines.ensures)

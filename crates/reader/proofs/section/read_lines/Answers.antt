@@ -8,21 +8,21 @@ use Rattle.reader.proofs.section.read_lines.Goals as goal
 pub loop-i-init : goal.loop-i-init
 loop-i-init g c =
     let e : c.args.count ≡ c.args.count - 0 = omega arith in
-    let none = c.requires.0 in
+    let none = c.requires.empty in
     ((λ i. lines_after g.T.OneLine.rule (map g.T.OneLine.said (sym none i)) (e i) (part_of c.args.rest)), omega arith)
 
-pub push-reserved-requires : goal.push-reserved-requires
-push-reserved-requires g c = omega arith
+pub push_reserved-requires : goal.push_reserved-requires
+push_reserved-requires g c = omega arith
 
 pub loop-i-preserved : goal.loop-i-preserved
 loop-i-preserved g c = (
-  line_more g.T.OneLine.rule c.args.count c.loop-i.-i _ c.loop-i-test.true _ _ _ _ _ c.loop-i.invariant.0 c.in-Ok.ensures
-      (ap (map g.T.OneLine.said) c.push-reserved.ensures.items ∙ map_push g.T.OneLine.said _ _),
+  line_more g.T.OneLine.rule c.args.count c.loop-i._i _ c.loop-i-test.true _ _ _ _ _ c.loop-i.invariant.0 c.in-Ok.ensures
+      (ap (map g.T.OneLine.said) c.push_reserved.ensures.items ∙ map_push g.T.OneLine.said _ _),
   omega arith,
 )
 
 pub returns-in-Err : goal.returns-in-Err
-returns-in-Err g c = sym (line_wrong g.T.OneLine.rule c.args.count c.loop-i.-i _ c.loop-i-test.true _ _ _ c.loop-i.invariant.0 c.in-Err.ensures)
+returns-in-Err g c = sym (line_wrong g.T.OneLine.rule c.args.count c.loop-i._i _ c.loop-i-test.true _ _ _ c.loop-i.invariant.0 c.in-Err.ensures)
 
 pub returns : goal.returns
-returns g c = sym (c.loop-i.invariant.0 ∙ no_more g.T.OneLine.rule _ c.args.count c.loop-i.-i _ (omega arith))
+returns g c = sym (c.loop-i.invariant.0 ∙ no_more g.T.OneLine.rule _ c.args.count c.loop-i._i _ (omega arith))
