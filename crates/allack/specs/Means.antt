@@ -1,6 +1,6 @@
 -- Each call of all-ack, from what it makes of the state to what the interface says of it.
-use Rattle.std.specs.Prelude.{◌≡◌, ℕ, ◌<◌, ◌≤◌, Bool, true, false, ◌&&◌, ◌||◌, length, Some, None, refl}
-use Rattle.std.proofs.Common.{sym, ap, subst, ◌∙◌, ⊎_elim, arith}
+use Rattle.std.specs.Prelude.{◌≡◌, ℕ, ◌<◌, true, false, length, Some, None, refl}
+use Rattle.std.proofs.Common.{sym, ap, ◌∙◌, ⊎_elim, arith}
 use borrow.Author.Tests.{clash}
 use Rattle.std.specs.List.{slice_get}
 use Rattle.std.proofs.lemmas.Bool.{both_ways, cases_Bool, or_cases, or_left}
@@ -11,7 +11,7 @@ use Rattle.parts.specs.Refusals.{post_answer, carry_answer, lose_answer, crash_a
 use Rattle.parts.specs.Broadcasting.{Started, HandedMore, Posted, Carried, Lost, Crashed, Suspected, Lawful, UniformAgreement}
 use Rattle.parts.proofs.Accepted.{post_accepted, crash_accepted, suspect_accepted}
 use Rattle.cards.specs.Cards.{crashed_in}
-use Rattle.tables.specs.Tables.{set_in, with_notes}
+use Rattle.tables.specs.Tables.{set_in}
 use Rattle.wire.specs.Wires.{any_of}
 use Rattle.wire.specs.declared.Item.{Item}
 use Rattle.tables.proofs.Changes.{posted_below, noted_all, noted_all_others_stay, nothing_left, bool_same}

@@ -3,10 +3,10 @@ use Rattle.entries.specs.declared.event.Event.{Event}
 use Rattle.entries.specs.declared.event.Event.TheVariants as events
 use Rattle.entries.specs.declared.event.Wire.{Wire as EventWire}
 use Rattle.entries.specs.declared.event.Wire.TheVariants as wires
-use Rattle.carrier_calls.specs.declared.call.Call.{Call}
-use Rattle.carrier_calls.specs.declared.call.Call.TheVariants.{Post, Carry, Lose, Crash, Suspect, Propose, Take, Settle}
-use Rattle.carrier_calls.specs.declared.call.Wire.{Wire}
-use Rattle.carrier_calls.specs.declared.call.Wire.TheVariants.{Broadcast, Consensus}
+use Rattle.total_order.specs.declared.call.Call.{Call}
+use Rattle.total_order.specs.declared.call.Call.TheVariants.{Post, Carry, Lose, Crash, Suspect, Propose, Take, Settle}
+use Rattle.total_order.specs.declared.call.Wire.{Wire}
+use Rattle.total_order.specs.declared.call.Wire.TheVariants.{Broadcast, Consensus}
 
 abbrev pub wire_of : EventWire → Wire
 wire_of wires.Broadcast = Broadcast

@@ -2,7 +2,7 @@
 ghost use Rattle.std.specs.Prelude.{◌≡◌, [], ◌∷◌, ◌++◌, map, IfOk, OnOk};
 ghost use Rattle.event_calls.specs.Calls.{wire_of, call_of};
 
-use carrier_calls::call::{Call, Wire as CarrierWire};
+use total_order::call::{Call, Wire as CarrierWire};
 use entries::event::{Event, Wire};
 use std::alloc::{AllocError, Global};
 

@@ -18,7 +18,7 @@ use Rattle.schedule.specs.declared.contents.BroadcastPart.TheVariants.{Relay, Al
 use Rattle.schedule.specs.declared.contents.ConsensusPart.{ConsensusPart}
 use Rattle.schedule.specs.declared.contents.ConsensusPart.TheVariants.{Flood, Register}
 use Rattle.schedule.specs.declared.contents.Pile.{Pile}
-use Rattle.carrier_calls.specs.declared.call.Call.{Call}
+use Rattle.total_order.specs.declared.call.Call.{Call}
 use Rattle.run_report.specs.Reports.{report_over}
 
 -- Of so many cards, a book whose notes have this ranking order, and these calls.

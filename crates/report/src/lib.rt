@@ -10,7 +10,7 @@ ghost use Rattle.report.specs.Reports.{how_many_notes, ranked_notes, schedule_re
 
 use crate::facts::{fault_line_is, labels_rank_by_bytes};
 use crate::stacks::report_on;
-use carrier_calls::call::Call;
+use total_order::call::Call;
 use event_calls::calls_of;
 use faults::FileFault;
 use reader::read::read;

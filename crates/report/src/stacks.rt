@@ -6,7 +6,7 @@ ghost use Rattle.report.specs.Stacks.{over_broadcast, over_pile};
 
 use allack::state::AllAck;
 use board::state::Board;
-use carrier_calls::call::Call;
+use total_order::call::Call;
 use flooding::state::Flooding;
 use inturn::layer::InTurn;
 use notes::kind::Kind;

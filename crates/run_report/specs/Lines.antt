@@ -2,7 +2,7 @@
 use Rattle.std.specs.Prelude.{ℕ, ◌+◌, Bool, cond, List, [], ◌∷◌, ◌++◌, map, codes, decimal, ◌==◌}
 use Rattle.text.specs.Written.{spaced}
 use Rattle.entries.specs.Written.{written_lines}
-use Rattle.carrier_calls.specs.Told.{Told}
+use Rattle.total_order.specs.Calls.{Told}
 
 -- A line is its words. They are written with one space between each two, and a byte 10 behind the last.
 abbrev pub Line : Type 0

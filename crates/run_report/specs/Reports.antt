@@ -4,9 +4,9 @@ use Rattle.std.specs.List.{range_with_len}
 use Rattle.parts.specs.declared.broadcast.Broadcast.{Ghosts as Broadcasts}
 use Rattle.parts.specs.declared.consensus.Consensus.{Ghosts as Consensuses}
 use Rattle.total_order.specs.Carrying.{Carrying, fresh, card_count, log_at}
-use Rattle.settling.specs.Settling.{at_rest}
-use Rattle.carrier_calls.specs.Told.{Told}
-use Rattle.carrier_calls.specs.declared.call.Call.{Call}
+use Rattle.total_order.specs.Carrying.{at_rest}
+use Rattle.total_order.specs.Calls.{Told}
+use Rattle.total_order.specs.declared.call.Call.{Call}
 use Rattle.runs.specs.Runs.{left_by, answers_to}
 use Rattle.run_report.specs.Lines.{Line, lines_text, refusal_lines, log_line, steps_line}
 

@@ -1,16 +1,15 @@
 // Writing what a run came to.
 ghost use Rattle.std.specs.Prelude.{◌≡◌, [], ◌∷◌, ◌++◌, map, string_bytes, OnOk};
-ghost use Rattle.carrier_calls.specs.Told.{told_of};
+ghost use Rattle.total_order.specs.Calls.{told_of};
 ghost use Rattle.total_order.specs.Models.{model};
 ghost use Rattle.run_report.specs.Lines.{lines_text};
 ghost use Rattle.run_report.specs.Reports.{log_line_of, log_lines, end_text};
 
 use self::facts::end_has_three_parts;
 use crate::lines::{write_log, write_refusals, write_steps};
-use carrier_calls::call::Answer;
+use total_order::call::Answer;
 use parts::broadcast::Broadcast;
 use parts::consensus::Consensus;
-use settling::rest::is_at_rest;
 use std::fmt;
 use total_order::carrier::Carrier;
 
@@ -26,7 +25,7 @@ pub(crate) fn write_end<B: Broadcast, C: Consensus>(
     end_has_three_parts(out, carrier, answers);
     write_refusals(out, answers)?;
     write_logs(out, carrier)?;
-    write_steps(out, carrier.steps(), is_at_rest(carrier))?;
+    write_steps(out, carrier.steps(), carrier.is_at_rest())?;
     Ok(())
 }
 

@@ -1,13 +1,13 @@
 // The report of a run over any broadcast and any consensus: what was refused, the log of each card, and the steps.
 ghost use Rattle.std.specs.Prelude.{◌≡◌, map, length, IfOk, string_bytes};
 ghost use Rattle.logs.specs.Orders.{in_ranking_order};
-ghost use Rattle.carrier_calls.specs.Told.{told_of};
+ghost use Rattle.total_order.specs.Calls.{told_of};
 ghost use Rattle.total_order.specs.Carrying.{cards_of};
 ghost use Rattle.total_order.specs.Models.{model};
 ghost use Rattle.run_report.specs.Reports.{end_text, report_over};
 
 use crate::end::write_end;
-use carrier_calls::call::{Answer, Call};
+use total_order::call::{Answer, Call};
 use notes::kind::Kind;
 use parts::broadcast::Broadcast;
 use parts::consensus::Consensus;

@@ -1,11 +1,11 @@
 // Writing the lines of a report.
 ghost use Rattle.std.specs.Prelude.{◌≡◌, [], ◌∷◌, ◌++◌, map, string_bytes, decimal, OnOk};
 ghost use Rattle.text.specs.Written.{spaced_after};
-ghost use Rattle.carrier_calls.specs.Told.{told_of};
+ghost use Rattle.total_order.specs.Calls.{told_of};
 ghost use Rattle.run_report.specs.Lines.{lines_text, refusal_line, refusal_lines, card_word, log_line, rest_word, steps_line};
 
 use self::facts::{log_line_is, refusal_line_is, steps_line_is};
-use carrier_calls::call::Answer;
+use total_order::call::Answer;
 use std::fmt;
 
 mod facts;

@@ -2,7 +2,7 @@
 use Rattle.std.specs.Prelude.{◌≡◌, ℕ, List, [], ◌∷◌, codes}
 pub use Rattle.board.specs.contracts.state.broadcast.BoardBroadcast.TheImpl.{ghosts as board}
 pub use Rattle.register.specs.contracts.state.consensus.RegisterConsensus.TheImpl.{ghosts as register}
-use Rattle.carrier_calls.specs.declared.call.Call.TheVariants.{Post}
+use Rattle.total_order.specs.declared.call.Call.TheVariants.{Post}
 use Rattle.total_order.specs.Carrying.{cards_of}
 use Rattle.run_report.specs.Reports.{report_over}
 use Rattle.report.specs.Reports.{report_of}

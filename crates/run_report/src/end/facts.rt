@@ -1,12 +1,12 @@
 // What the bytes of a report are, from left to right. The function does nothing: it states a fact that the writing of a report rests on.
 ghost use Rattle.std.specs.Prelude.{◌≡◌, [], ◌∷◌, ◌++◌, map, string_bytes};
-ghost use Rattle.carrier_calls.specs.Told.{told_of};
-ghost use Rattle.settling.specs.Settling.{at_rest};
+ghost use Rattle.total_order.specs.Calls.{told_of};
+ghost use Rattle.total_order.specs.Carrying.{at_rest};
 ghost use Rattle.total_order.specs.Models.{model};
 ghost use Rattle.run_report.specs.Lines.{lines_text, refusal_lines, steps_line};
 ghost use Rattle.run_report.specs.Reports.{log_lines, end_text};
 
-use carrier_calls::call::Answer;
+use total_order::call::Answer;
 use parts::broadcast::Broadcast;
 use parts::consensus::Consensus;
 use total_order::carrier::Carrier;

@@ -5,7 +5,7 @@ use Rattle.notes.specs.Sets.{has}
 use Rattle.notes.specs.Places.{place}
 use Rattle.logs.specs.Orders.{in_ranking_order}
 use Rattle.total_order.specs.Carrying.{waiting}
-use Rattle.settling.specs.Settling.{taker, proposer, at_rest, advanced, settled, settle_steps}
+use Rattle.total_order.specs.Carrying.{taker, proposer, at_rest, advanced, settled, settle_steps}
 use Rattle.runs.specs.Runs.{left_by, answers_to}
 use Rattle.flooding.specs.Flooding.{steps_on, through_on}
 use Rattle.worked.proofs.examples_come_out.Goals as goal

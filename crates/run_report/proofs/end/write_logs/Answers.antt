@@ -14,14 +14,14 @@ loop-card-preserved g c =
     let d = g.C.Consensus in
     let s = model b d c.args.carrier.now in
     let k = c.loop-card.card in
-    one_more (string_bytes c.args.out.now) (string_bytes c.loop-card.out) (string_bytes c.write-card.new.out)
+    one_more (string_bytes c.args.out.now) (string_bytes c.loop-card.out) (string_bytes c.write_card.new.out)
     (map (log_line_of b d s) (range_with_len 0 k)) (map (log_line_of b d s) (range_with_len 0 (k + 1))) (log_line_of b d s k)
-    c.loop-card.invariant c.in-ok-write-card.ensures (map-range_with_len_more (log_line_of b d s) 0 k k (omega arith))
+    c.loop-card.invariant c.in_ok-write_card.ensures (map-range_with_len_more (log_line_of b d s) 0 k k (omega arith))
 
 pub returns : goal.returns
 returns g c =
     let b = g.B.Broadcast in
     let d = g.C.Consensus in
     let s = model b d c.args.carrier.now in
-    let last : c.loop-card.card ≡ card_count b d s = omega (arith, c.card-count-card-end.ensures.count, c.loop-card.auto.card-end, c.loop-card-test.false) in
+    let last : c.loop-card.card ≡ card_count b d s = omega (arith, c.card_count-card-end.ensures.count, c.loop-card.auto.card-end, c.loop-card-test.false) in
     c.loop-card.invariant ∙ ap (λ n. string_bytes c.args.out.now ++ lines_text (map (log_line_of b d s) (range_with_len 0 n))) last

@@ -10,7 +10,7 @@ loop-note-preserved c =
     let notes = c.args.log.now in
     let out = string_bytes c.loop-note.out in
     onto out (string_bytes c.write.new.self) (32 ∷ decimal (get_or notes i 0)) (spaced_after (map decimal (drop (i + 1) notes))) _
-    c.in-ok-write.ensures.bytes
+    c.in_ok-write.ensures.bytes
     (sym (at_drop_more (λ ys. out ++ spaced_after (map decimal ys)) notes i 0 c.loop-note-test.true) ∙ c.loop-note.invariant)
 
 pub returns : goal.returns

@@ -1,7 +1,7 @@
 use Rattle.std.proofs.Common.{◌+◌, ◌++◌, map, get_or, drop, string_bytes, sym, ap, ◌∙◌, append-nil}
 use Rattle.std.proofs.lemmas.List.{at_drop_more, at_drop_all}
-use Rattle.carrier_calls.specs.Told.{told_of}
-use Rattle.carrier_calls.specs.declared.call.Answer.TheVariants.{Accepted}
+use Rattle.total_order.specs.Calls.{told_of}
+use Rattle.total_order.specs.declared.call.Answer.TheVariants.{Accepted}
 use Rattle.run_report.specs.Lines.{lines_text, refusal_line, refusal_lines}
 use Rattle.run_report.proofs.Bytes.{onto, lines_append}
 use Rattle.run_report.proofs.lines.write_refusals.Goals as goal
@@ -13,8 +13,8 @@ loop-event-preserved c =
     let out = string_bytes c.loop-event.out in
     let one = refusal_line i (told_of (get_or answers i Accepted)).refusal in
     let rest = refusal_lines (i + 1) (map told_of (drop (i + 1) answers)) in
-    onto out (string_bytes c.write-refusal.new.out) (lines_text one) (lines_text rest) _
-    c.in-ok-write-refusal.ensures
+    onto out (string_bytes c.write_refusal.new.out) (lines_text one) (lines_text rest) _
+    c.in_ok-write_refusal.ensures
     (ap (λ z. out ++ z) (sym (lines_append one rest))
     ∙ sym (at_drop_more (λ ys. out ++ lines_text (refusal_lines i (map told_of ys))) answers i Accepted c.loop-event-test.true)
     ∙ c.loop-event.invariant)

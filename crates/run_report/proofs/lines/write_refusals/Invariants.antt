@@ -1,5 +1,5 @@
 use Rattle.std.proofs.Common.{◌≡◌, ◌++◌, map, drop, string_bytes}
-use Rattle.carrier_calls.specs.Told.{told_of}
+use Rattle.total_order.specs.Calls.{told_of}
 use Rattle.run_report.specs.Lines.{lines_text, refusal_lines}
 use Rattle.run_report.proofs.lines.write_refusals.Given as goal
 

@@ -1,6 +1,6 @@
 use Rattle.std.proofs.Common.{[], ◌∷◌, map, string_bytes}
-use Rattle.carrier_calls.specs.Told.{told_of}
-use Rattle.settling.specs.Settling.{at_rest}
+use Rattle.total_order.specs.Calls.{told_of}
+use Rattle.total_order.specs.Carrying.{at_rest}
 use Rattle.total_order.specs.Models.{model}
 use Rattle.run_report.specs.Lines.{refusal_lines, steps_line}
 use Rattle.run_report.specs.Reports.{log_lines}
