@@ -1,7 +1,7 @@
 -- The report of a schedule file.
 use Rattle.std.specs.Prelude.{ℕ, Bool, List, [], ◌∷◌, map, length, Ok, Err, codes, Result}
 use Rattle.labels.specs.Order.{label_before}
-use Rattle.notes.specs.contracts.wear.WearKind.TheImpl.{ghosts as wearKind}
+use Rattle.notes.specs.contracts.wear.WearKind.TheImpl.{ghosts as wear_kind}
 use Rattle.faults.specs.Faults.{fault_text}
 use Rattle.faults.specs.declared.FileFault.{FileFault}
 use Rattle.reader.specs.Sections.{Noted, wears, labels}
@@ -22,7 +22,7 @@ bytes_before a b = label_before a.0 b.0
 
 -- The numbers of the notes in ranking order.
 abbrev pub ranked_notes : Noted → List ℕ
-ranked_notes (wears ws) = in_ranking_order wearKind.precedes ws
+ranked_notes (wears ws) = in_ranking_order wear_kind.precedes ws
 ranked_notes (labels ls) = in_ranking_order bytes_before ls
 
 abbrev pub schedule_report : Whole → List ℕ

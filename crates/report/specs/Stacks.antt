@@ -4,12 +4,12 @@ use Rattle.std.specs.Borrow.{RattleType}
 use mir.Syntax.{Dict}
 use Rattle.parts.specs.declared.broadcast.Broadcast.{Ghosts as Broadcasts}
 use Rattle.parts.specs.declared.consensus.Consensus.{Ghosts as Consensuses}
-use Rattle.relay.specs.contracts.state.Relay.{the_row as relayType}
-use Rattle.relay.specs.contracts.state.broadcast.RelayBroadcast.TheImpl.{ghosts as relay, dict as relayDict}
-use Rattle.allack.specs.contracts.state.AllAck.{the_row as allAckType}
-use Rattle.allack.specs.contracts.state.broadcast.AllAckBroadcast.TheImpl.{ghosts as allAck, dict as allAckDict}
-use Rattle.board.specs.contracts.state.Board.{the_row as boardType}
-use Rattle.board.specs.contracts.state.broadcast.BoardBroadcast.TheImpl.{ghosts as board, dict as boardDict}
+use Rattle.relay.specs.contracts.state.Relay.{the_row as RelayType}
+use Rattle.relay.specs.contracts.state.broadcast.RelayBroadcast.TheImpl.{ghosts as relay, dict as relay_dict}
+use Rattle.allack.specs.contracts.state.AllAck.{the_row as AllAckType}
+use Rattle.allack.specs.contracts.state.broadcast.AllAckBroadcast.TheImpl.{ghosts as all_ack, dict as all_ack_dict}
+use Rattle.board.specs.contracts.state.Board.{the_row as BoardType}
+use Rattle.board.specs.contracts.state.broadcast.BoardBroadcast.TheImpl.{ghosts as board, dict as board_dict}
 use Rattle.inturn.specs.contracts.layer.InTurnBroadcast.TheImpl.{ghosts as in_turn}
 use Rattle.flooding.specs.contracts.state.consensus.FloodingConsensus.TheImpl.{ghosts as flooding}
 use Rattle.register.specs.contracts.state.consensus.RegisterConsensus.TheImpl.{ghosts as register}
@@ -30,9 +30,9 @@ module _ (cards : ℕ) (order : List ℕ) (calls : List Call) where
     over_layer false T broadcast dict = report_over broadcast consensus cards order calls
 
     abbrev pub over_broadcast : Bool → BroadcastPart → List ℕ
-    over_broadcast turn Relay = over_layer turn relayType relay relayDict
-    over_broadcast turn AllAck = over_layer turn allAckType allAck allAckDict
-    over_broadcast turn Board = over_layer turn boardType board boardDict
+    over_broadcast turn Relay = over_layer turn RelayType relay relay_dict
+    over_broadcast turn AllAck = over_layer turn AllAckType all_ack all_ack_dict
+    over_broadcast turn Board = over_layer turn BoardType board board_dict
 
   abbrev pub over_parts : Bool → BroadcastPart → ConsensusPart → List ℕ
   over_parts turn broadcast Register = over_broadcast register turn broadcast
