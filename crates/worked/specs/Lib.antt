@@ -1,2 +1,4 @@
+pub mod Reports
 pub mod Examples
+pub mod Files
 pub mod Shelves

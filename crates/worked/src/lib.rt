@@ -1,7 +1,8 @@
 // Worked examples: files and their reports, computed from the definition that the contract of `report` cites.
 ghost use Rattle.std.specs.Prelude.{◌≡◌, IfOk, codes};
 ghost use Rattle.order.specs.Words.{step_bound};
-ghost use Rattle.worked.specs.Examples.{board, register, WorkedExamples};
+ghost use Rattle.worked.specs.Examples.{board, register, LateNote, OneBatch};
+ghost use Rattle.worked.specs.Files.{WorkedFiles};
 ghost use Rattle.worked.specs.Shelves.{OneOfEachShelf};
 
 use report::report;
@@ -11,7 +12,7 @@ use std::alloc::{AllocError, Global};
 pub fn late_note(heap: Global) -> Result<Vec<u8>, AllocError>
     ensures { IfOk result (λ out. out.items ≡ codes "no 4 9\nlog 0 up 0 1\nlog 1 up 0 1\nsteps 16 rest\n") }
 {
-    examples_come_out();
+    files_come_out();
     report(
         heap,
         b"kind wear\ncards 2\npile board register\nnotes 2\nevents 6\n7 120\n3 55\nb 0 0\nb 1 1\nc b 0\np 0\np 1\nr 100\n",
@@ -21,17 +22,25 @@ pub fn late_note(heap: Global) -> Result<Vec<u8>, AllocError>
 // The most steps that the bound allows the first two examples: two posts, two cards, over the board and the register.
 pub fn steps_allowed() -> u64
     ensures bound { result ≡ step_bound 2 2 board.bound register.bound }
-    ensures examples { WorkedExamples }
+    ensures late_note { LateNote }
+    ensures one_batch { OneBatch }
+    ensures files { WorkedFiles }
     ensures shelves { OneOfEachShelf }
 {
     examples_come_out();
+    files_come_out();
     shelves_come_out();
     24
 }
 
 // Facts, and nothing to do.
 fn examples_come_out()
-    ensures { WorkedExamples }
+    ensures late_note { LateNote }
+    ensures one_batch { OneBatch }
+{}
+
+fn files_come_out()
+    ensures { WorkedFiles }
 {}
 
 fn shelves_come_out()

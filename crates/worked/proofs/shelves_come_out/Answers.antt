@@ -4,12 +4,12 @@ use Rattle.std.specs.Fmt.{digits}
 use Rattle.notes.specs.Sets.{has}
 use Rattle.notes.specs.Places.{place}
 use Rattle.logs.specs.Orders.{in_ranking_order}
-use Rattle.total_order.specs.Carrying.{waiting}
-use Rattle.total_order.specs.Carrying.{taker, proposer, at_rest, advanced, settled, settle_steps}
+use Rattle.total_order.specs.Calls.{calling}
+use Rattle.total_order.specs.Carrying.{waiting, taker, proposer, at_rest, advanced, settled, settle_steps}
 use Rattle.runs.specs.Runs.{left_by, answers_to}
 use Rattle.flooding.specs.Flooding.{steps_on, through_on}
 use Rattle.worked.proofs.shelves_come_out.Goals as goal
 
 pub returns : goal.returns
-unfolding digits ones ones_in count_trailing_zeros has place in_ranking_order waiting taker proposer at_rest advanced settled settle_steps left_by answers_to steps_on through_on
+unfolding digits ones ones_in count_trailing_zeros has place in_ranking_order waiting taker proposer at_rest advanced settled settle_steps calling left_by answers_to steps_on through_on
 returns c = record { relay_flood = refl; relay_register = refl; allack_flood = refl; allack_register = refl; board_flood = refl; board_register = refl; inturn_relay_flood = refl; inturn_relay_register = refl; inturn_allack_flood = refl; inturn_allack_register = refl; inturn_board_flood = refl; inturn_board_register = refl; unreadable = refl }

@@ -1,0 +1,34 @@
+-- What a run comes to.
+use Rattle.std.specs.Prelude.{ℕ, Bool, List, map, length}
+use Rattle.std.specs.List.{range_with_len}
+use Rattle.parts.specs.declared.broadcast.Broadcast.{Ghosts as Broadcasts}
+use Rattle.parts.specs.declared.consensus.Consensus.{Ghosts as Consensuses}
+use Rattle.logs.specs.Orders.{in_ranking_order}
+use Rattle.total_order.specs.Carrying.{Carrying, fresh, cards_of, card_count, log_at, at_rest}
+use Rattle.total_order.specs.declared.call.Call.{Call}
+use Rattle.runs.specs.Runs.{left_by, answers_to}
+
+-- By which number each call was refused, 0 where it was accepted; the log of each card; the steps; and whether the carrier is at rest.
+pub record Report : Type 0 where
+  pub refusals : List ℕ
+  pub logs : List (List ℕ)
+  pub steps : ℕ
+  pub rest : Bool
+
+module _ {X Y : Type 0} (b : Broadcasts X) (c : Consensuses Y) where
+  -- A new carrier with so many cards and this book, whose notes stand before one another as told.
+  abbrev pub new_carrier : {K : Type 0} → (K → K → Bool) → ℕ → List K → Carrying b c
+  new_carrier precedes cards book = fresh b c (cards_of cards (length book)) (in_ranking_order precedes book)
+
+  abbrev pub report_on : Carrying b c → List Call → Carrying b c → Report
+  report_on s calls end = record {
+    refusals = map (λ told. told.refusal) (answers_to b c s calls);
+    logs = map (log_at b c end) (range_with_len 0 (card_count b c end));
+    steps = end.steps;
+    rest = at_rest b c end;
+  }
+
+  -- What the calls come to on that carrier.
+  abbrev pub report : {K : Type 0} → (K → K → Bool) → ℕ → List K → List Call → Report
+  report precedes cards book calls =
+      report_on (new_carrier precedes cards book) calls (left_by b c (new_carrier precedes cards book) calls)
