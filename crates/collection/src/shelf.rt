@@ -49,7 +49,7 @@ pub(crate) fn names_in(rt: &HostRuntime, folder: &str) -> io::Result<Vec<String>
         let entry = entry?;
         names.push(String::from_str(rt.alloc(), entry.file_name())?)?;
     }
-    names.sort();
+    names.sort()?;
     Ok(names)
 }
 
