@@ -1,4 +1,6 @@
 // Runs a schedule file: the file on standard input, the report on standard output.
+#![tactic(auto)]
+
 use anyhow::anyhow;
 use report::report;
 use std::io::{Read, Write};

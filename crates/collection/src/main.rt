@@ -1,5 +1,7 @@
 // Runs every schedule of the collection, and compares what it comes to with the report that stands beside it, byte for byte.
 // The collection is the folder that the program is run in: a shelf is a folder below it, with files NAME.schedule and NAME.report.
+#![tactic(auto)]
+
 mod shelf;
 
 use anyhow::anyhow;

@@ -1,10 +1,12 @@
 // The events of a schedule as calls on a carrier.
+#![tactic(auto)]
+
 ghost use Rattle.std.specs.Prelude.{◌≡◌, [], ◌∷◌, ◌++◌, map, IfOk, OnOk};
 ghost use Rattle.event_calls.specs.Calls.{wire_of, call_of};
 
-use total_order::call::{Call, Wire as CarrierWire};
 use entries::event::{Event, Wire};
 use std::alloc::{AllocError, Global};
+use total_order::call::{Call, Wire as CarrierWire};
 
 fn wire_of(wire: Wire) -> CarrierWire
     ensures { result ≡ wire_of wire }

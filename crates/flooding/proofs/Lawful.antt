@@ -1,15 +1,14 @@
 -- What is certain of every flooding that is made: decisions were proposed, are equal, and come when it is quiet.
-use Rattle.std.proofs.Common.{◌≡◌, ℕ, zero, suc, ◌+◌, ◌<◌, ◌≤◌, Bool, true, false, cond, not, ◌&&◌, ◌||◌, ◌⊎◌, List, [], ◌∷◌, length, get_or, is_some, Some, None, Option, sym, refl, ap, ◌∙◌, subst, inl, inr, ⊎_elim, arith}
+use Rattle.std.proofs.Common.{◌≡◌, ℕ, zero, suc, ◌<◌, ◌≤◌, true, false, ◌⊎◌, is_some, Some, sym, ap, ◌∙◌, subst, inl, ⊎_elim, arith}
 use borrow.Author.Tests.{clash}
 use Rattle.std.proofs.ByRecursion.{All-map, All-weaker}
-use Rattle.std.proofs.lemmas.List.{get_or_past}
 use Rattle.std.proofs.lemmas.Bool.{cases_Bool, cases_lt, cases_eq, cond-true, cond-false, and_from, or_left, or_right, not_from_false, lt-ltb, ltb-true, both_ways}
 use Rattle.notes.specs.Sets.{has, low}
 use Rattle.notes.proofs.Bits.{same_sets}
 use Rattle.parts.specs.Views.{Runs, Quiet}
 use Rattle.parts.specs.Deciding.{Lawful}
 use Rattle.parts.proofs.Options.{some_held}
-use Rattle.cards.specs.Cards.{crashed_in, suspects_in}
+use Rattle.cards.specs.Cards.{crashed_in}
 use Rattle.tables.specs.Tables.{ballot_in}
 use Rattle.wire.specs.Wires.{senders, any_of}
 use Rattle.tables.proofs.Changes.{nothing_left}
@@ -21,7 +20,7 @@ use Rattle.histories.proofs.Agrees.{agreement}
 use Rattle.histories.proofs.Heard.{heard_knew}
 use Rattle.flooding.specs.Seats.{SeatState, seat_in, accounted_for}
 use Rattle.flooding.specs.Flooding.{FloodingState, flooding_work, seen, proposal_of, may_move}
-use Rattle.flooding.specs.Made.{Shaped, fates_of, brings, Tied, Underway, MadeFlooding}
+use Rattle.flooding.specs.Made.{fates_of, brings, Tied, Underway, MadeFlooding}
 use Rattle.flooding.specs.Counted.{all_from_each}
 use Rattle.flooding.specs.Lawful.{instance_below, some_proposal, same_some}
 

@@ -1,5 +1,5 @@
 -- What holds of every flooding that is made by `new` and the calls: in each instance its state is that of a history.
-use Rattle.std.specs.Prelude.{◌≡◌, ℕ, suc, ◌^◌, ◌<◌, ◌≤◌, Bool, true, false, cond, not, ◌&&◌, ◌||◌, ◌⊎◌, List, [], length, is_some, Some, Option, ◌==◌, ◌≢◌, nat_lt, slice_index_or}
+use Rattle.std.specs.Prelude.{◌≡◌, ℕ, suc, ◌^◌, ◌<◌, ◌≤◌, Bool, true, false, cond, not, ◌&&◌, ◌⊎◌, List, [], length, is_some, Some, ◌==◌, ◌≢◌, nat_lt, slice_index_or}
 use Rattle.std.specs.List.{AllByRecursion}
 use Rattle.notes.specs.Sets.{has, low}
 use Rattle.cards.specs.Cards.{CardState, crashed_in, suspects_in, SoundCards}
@@ -8,7 +8,7 @@ use Rattle.wire.specs.Wires.{any_of}
 use Rattle.wire.specs.declared.Item.{Item}
 use Rattle.histories.specs.Histories.{Past, Fates, History}
 use Rattle.histories.specs.Moves.{heard_of}
-use Rattle.flooding.specs.Seats.{SeatState, seat_in}
+use Rattle.flooding.specs.Seats.{seat_in}
 use Rattle.flooding.specs.Mail.{LoadState}
 use Rattle.flooding.specs.Flooding.{FloodingState, proposal_of, may_move}
 

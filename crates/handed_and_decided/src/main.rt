@@ -1,4 +1,6 @@
 // Posts over a board, proposals over a register, all items carried: what each card was handed and decided.
+#![tactic(auto)]
+
 mod carrying;
 mod cases;
 mod report;

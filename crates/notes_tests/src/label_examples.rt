@@ -13,7 +13,7 @@ fn a_label_has_one_to_eight_printable_bytes(rt: HostRuntime) {
 #[test]
 fn a_label_gives_its_bytes_back_with_their_place(rt: HostRuntime) -> Result<(), Fail> {
     let label = Label::new(b" AB12 ~ ", 40).ok_or("a label of eight bytes")?;
-    assert!(rt; label.bytes() == b" AB12 ~ ");
+    assert!(rt; label.bytes() == b" AB12 ~ ".as_slice());
     assert_eq!(rt; label.place(), 40);
     Ok(())
 }

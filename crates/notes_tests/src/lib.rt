@@ -1,3 +1,5 @@
+#![tactic(auto)]
+
 // Examples of note sets, kinds and rankings, run as tests.
 #[cfg(test)]
 mod label_examples;

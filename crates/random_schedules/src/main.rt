@@ -1,5 +1,7 @@
 // Random schedules over every pile, as files: the order law is checked on the report of each, so that what no proof looks at is tried too,
 // which is how the program is compiled.
+#![tactic(auto)]
+
 mod draw;
 mod happened;
 mod law;

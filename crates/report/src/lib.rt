@@ -1,4 +1,6 @@
 // The report of a schedule file: the file's fault, or what its run comes to over the stack that it names.
+#![tactic(auto)]
+
 ghost use Rattle.std.specs.Prelude.{◌≡◌, ℕ, List, [], ◌∷◌, map, length, IfOk, string_bytes, codes};
 ghost use Rattle.labels.specs.Order.{label_of};
 ghost use Rattle.faults.specs.Faults.{fault_text};
@@ -10,13 +12,13 @@ ghost use Rattle.report.specs.Reports.{how_many_notes, ranked_notes, schedule_re
 
 use crate::facts::{fault_line_is, labels_rank_by_bytes};
 use crate::stacks::report_on;
-use total_order::call::Call;
 use event_calls::calls_of;
 use faults::FileFault;
-use reader::read::read;
 use reader::file::{Notes, Schedule, Unread};
+use reader::read::read;
 use schedule::contents::Pile;
 use std::alloc::{AllocError, Global};
+use total_order::call::Call;
 
 mod facts;
 mod stacks;

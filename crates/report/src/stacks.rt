@@ -6,7 +6,6 @@ ghost use Rattle.report.specs.Stacks.{over_broadcast, over_pile};
 
 use allack::state::AllAck;
 use board::state::Board;
-use total_order::call::Call;
 use flooding::state::Flooding;
 use inturn::layer::InTurn;
 use notes::kind::Kind;
@@ -16,6 +15,7 @@ use relay::state::Relay;
 use run_report::{report_over, report_over_uniform};
 use schedule::contents::{BroadcastPart, ConsensusPart, Pile};
 use std::alloc::{AllocError, Global};
+use total_order::call::Call;
 
 // The broadcast that the pile names, under the in-turn layer or alone, with this consensus.
 fn report_with<K: Kind, C: Consensus + Drop>(

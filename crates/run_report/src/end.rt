@@ -7,10 +7,10 @@ ghost use Rattle.run_report.specs.Reports.{log_line_of, log_lines, end_text};
 
 use self::facts::end_has_three_parts;
 use crate::lines::{write_log, write_refusals, write_steps};
-use total_order::call::Answer;
 use parts::broadcast::Broadcast;
 use parts::consensus::Consensus;
 use std::fmt;
+use total_order::call::Answer;
 use total_order::carrier::Carrier;
 
 mod facts;

@@ -1,4 +1,6 @@
 // The report of a run over any broadcast and any consensus: what was refused, the log of each card, and the steps.
+#![tactic(auto)]
+
 ghost use Rattle.std.specs.Prelude.{◌≡◌, map, length, IfOk, string_bytes};
 ghost use Rattle.logs.specs.Orders.{in_ranking_order};
 ghost use Rattle.total_order.specs.Calls.{told_of};
@@ -7,13 +9,13 @@ ghost use Rattle.total_order.specs.Models.{model};
 ghost use Rattle.run_report.specs.Reports.{end_text, report_over};
 
 use crate::end::write_end;
-use total_order::call::{Answer, Call};
 use notes::kind::Kind;
 use parts::broadcast::Broadcast;
 use parts::consensus::Consensus;
 use parts::uniform::Uniform;
 use runs::{RunEnd, UniformEnd, run, run_uniform};
 use std::alloc::{AllocError, Global};
+use total_order::call::{Answer, Call};
 use total_order::carrier::Carrier;
 
 mod end;

@@ -5,8 +5,8 @@ ghost use Rattle.total_order.specs.Calls.{told_of};
 ghost use Rattle.run_report.specs.Lines.{lines_text, refusal_line, refusal_lines, card_word, log_line, rest_word, steps_line};
 
 use self::facts::{log_line_is, refusal_line_is, steps_line_is};
-use total_order::call::Answer;
 use std::fmt;
+use total_order::call::Answer;
 
 mod facts;
 

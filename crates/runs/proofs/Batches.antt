@@ -1,14 +1,14 @@
 -- Batches and waiting notes.
-use Rattle.std.proofs.Common.{◌≡◌, ℕ, zero, suc, ◌+◌, ◌<◌, ◌≤◌, Bool, true, false, cond, not, ◌&&◌, ◌||◌, eqb, ltb, leb, ◌⊎◌, List, [], ◌∷◌, ◌++◌, map, length, get_or, filter, sym, refl, ap, ◌∙◌, subst, inl, inr, arith, length-append}
+use Rattle.std.proofs.Common.{◌≡◌, ℕ, zero, suc, ◌+◌, ◌<◌, ◌≤◌, Bool, true, false, cond, ◌&&◌, ◌||◌, eqb, leb, ◌⊎◌, List, [], ◌∷◌, map, length, get_or, filter, sym, refl, ap, ◌∙◌, subst, inl, inr, arith, length-append}
 use Rattle.std.specs.List.{range_with_len}
 use Rattle.std.proofs.lemmas.List.FromFn.{length-map-range_with_len}
-use Rattle.std.proofs.lemmas.Bool.{eqb-true, eqb-false, eq-eqb, ne_eqb, lt-ltb, cases_Bool, cases_eq, or_cases, or_left, or_right, both_ways}
+use Rattle.std.proofs.lemmas.Bool.{eqb-true, eq-eqb, lt-ltb, cases_Bool, or_cases, or_left, or_right, both_ways}
 use Rattle.std.proofs.lemmas.Bool.Decides.{nat_tests}
 use Rattle.notes.specs.Sets.{has, added, how_many}
 use Rattle.notes.proofs.Bits.{has_added}
 use Rattle.logs.specs.Orders.{with_all, note_at, in_ranking_order, RankingOrder}
 use Rattle.logs.proofs.Batches.{passing}
-use Rattle.order.specs.Words.{In, among, NoneTwice}
+use Rattle.order.specs.Words.{among, NoneTwice}
 use Rattle.order.specs.Views.{Ranks}
 use Rattle.order.proofs.Lists.{among_append, none_twice_append}
 

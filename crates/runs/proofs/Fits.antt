@@ -1,7 +1,6 @@
 -- A carrier that every run keeps good, and what the accepted calls tell of it.
-use Rattle.std.proofs.Common.{◌≡◌, ℕ, zero, suc, ◌+◌, ◌*◌, ◌<◌, ◌≤◌, Bool, true, false, cond, not, ◌&&◌, ◌||◌, eqb, ltb, ◌⊎◌, List, [], ◌∷◌, length, set, is_some, Some, None, Option, sym, refl, ap, ◌∙◌, subst, inl, inr, mul-le-mul_right, arith}
-use Rattle.std.proofs.lemmas.Bool.{eqb-true, eq-eqb, ne_eqb, ltb-true, ltb-false, cases_Bool, cases_eq, and_from, both_ways, cond-true, cond-false}
-use Rattle.std.proofs.lemmas.Bool.Decides.{nat_tests}
+use Rattle.std.proofs.Common.{◌≡◌, ℕ, zero, suc, ◌+◌, ◌*◌, ◌<◌, ◌≤◌, Bool, true, false, cond, not, ◌&&◌, ◌||◌, eqb, ltb, List, [], ◌∷◌, length, set, is_some, Some, None, Option, sym, refl, ap, ◌∙◌, subst, inl, inr, mul-le-mul_right, arith}
+use Rattle.std.proofs.lemmas.Bool.{eqb-true, eq-eqb, ne_eqb, ltb-true, ltb-false, cases_eq, and_from, both_ways, cond-true, cond-false}
 use Rattle.parts.specs.Views.{BroadcastView}
 use Rattle.parts.specs.Refusals.{post_answer, carry_answer, lose_answer, crash_answer, suspect_answer, acting_answer}
 use Rattle.parts.specs.Shown.{shown, told}
@@ -13,15 +12,15 @@ use Rattle.order.specs.Words.{sum, one_if, step_bound}
 use Rattle.order.specs.Views.{posts}
 use Rattle.order.proofs.Lists.{sum_le}
 use Rattle.order.proofs.Facts.{within_bound}
-use Rattle.total_order.specs.Carrying.{Carrying, Reply, one_more, if_accepted, moved, counted, card_count, log_at, instance_at, decision_at, waiting, post_reply, posting, carrying, losing, crashing, suspecting, propose_reply, proposing, take_reply, taking, taker, proposer, at_rest, take_or_propose, advanced, settled, settle_steps}
-use Rattle.total_order.specs.Calls.{Told, told_by, Outcome, outcome, calling}
+use Rattle.total_order.specs.Carrying.{Carrying, one_more, moved, counted, card_count, log_at, instance_at, decision_at, waiting, post_reply, posting, carrying, losing, crashing, suspecting, propose_reply, proposing, take_reply, taking, taker, proposer, at_rest, take_or_propose, advanced, settled, settle_steps}
+use Rattle.total_order.specs.Calls.{calling}
 use Rattle.total_order.specs.declared.call.Call.{Call}
 use Rattle.total_order.specs.declared.call.Call.TheVariants.{Post, Carry, Lose, Crash, Suspect, Propose, Take, Settle}
 use Rattle.total_order.specs.declared.call.Wire.{Wire}
 use Rattle.total_order.specs.declared.call.Wire.TheVariants.{Broadcast, Consensus}
 use Rattle.runs.specs.Runs.{left_by, answers_to}
 use Rattle.runs.specs.Tally.{Tally, with_steps, with_post, with_crash, with_suspicion, with_call, with_calls}
-use Rattle.runs.proofs.Good.{Means, Good, LB, LC, R, step_counted, count_is, good_post, good_carry_broadcast, good_carry_consensus, good_lose_broadcast, good_lose_consensus, good_crash, good_suspect, good_propose, good_take, crash_both, suspect_both}
+use Rattle.runs.proofs.Good.{Means, Good, LB, LC, R, step_counted, good_post, good_carry_broadcast, good_carry_consensus, good_lose_broadcast, good_lose_consensus, good_crash, good_suspect, good_propose, good_take, crash_both, suspect_both}
 
 posts_same : (v w : BroadcastView) → ((m : ℕ) → w.poster m ≡ v.poster m) → posts w ≤ posts v
 unfolding posts

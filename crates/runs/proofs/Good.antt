@@ -1,10 +1,10 @@
 -- What every run keeps of a carrier, call by call.
-use Rattle.std.proofs.Common.{◌≡◌, ℕ, zero, suc, ◌+◌, ◌^◌, ◌<◌, ◌≤◌, Bool, true, false, cond, not, ◌&&◌, ◌||◌, eqb, ltb, leb, ◌⊎◌, List, [], ◌∷◌, ◌++◌, length, get_or, set, replicate, is_some, Some, None, filter, Option, sym, refl, ap, ◌∙◌, subst, inl, inr, add-one, arith, length-set, get_or-set_other, get_or-set_same}
+use Rattle.std.proofs.Common.{◌≡◌, ℕ, zero, suc, ◌+◌, ◌^◌, ◌<◌, ◌≤◌, Bool, true, false, cond, not, ◌&&◌, ◌||◌, ltb, leb, List, [], length, get_or, set, replicate, is_some, Some, None, filter, Option, sym, refl, ap, ◌∙◌, add-one, arith, length-set, get_or-set_other, get_or-set_same}
 use lib.Bits.{bit_xor, and_le_l}
 use lib.Count.{ones, count_trailing_zeros}
-use Rattle.std.proofs.lemmas.Bool.{ltb-true, lt-ltb, le-ltb, cases_Bool, and_parts, not-true, cond_both, cond-true, both_ways}
+use Rattle.std.proofs.lemmas.Bool.{ltb-true, lt-ltb, and_parts, not-true, cond_both, cond-true}
 use Rattle.std.proofs.lemmas.Bool.Decides.{nat_tests}
-use Rattle.notes.specs.Sets.{has, minus}
+use Rattle.notes.specs.Sets.{has}
 use Rattle.notes.proofs.Bits.{has_minus, has_none, ones_count, zeros_lowest}
 use Rattle.parts.specs.Views.{Net, BroadcastView, ConsensusView, Runs}
 use Rattle.parts.specs.Nets.{SameCards}
@@ -18,9 +18,9 @@ use Rattle.parts.specs.declared.broadcast.Broadcast.{Ghosts as Broadcasts}
 use Rattle.parts.specs.declared.consensus.Consensus.{Ghosts as Consensuses}
 use Rattle.logs.specs.Orders.{number_in, appended, with_all}
 use Rattle.logs.proofs.Batches.{passing}
-use Rattle.order.specs.Words.{In, among}
-use Rattle.order.specs.Views.{Ledger, IsPosted, posts, Ranks}
-use Rattle.order.specs.Steps.{Waiting, Counted, Step, New}
+use Rattle.order.specs.Words.{among}
+use Rattle.order.specs.Views.{Ledger, Ranks}
+use Rattle.order.specs.Steps.{Waiting, Counted, Step}
 use Rattle.order.specs.Steps.Step.{post, carry_broadcast, carry_consensus, lose_broadcast, lose_consensus, crash, suspect, propose, take as took}
 use Rattle.order.proofs.Invariant.{Consistent}
 use Rattle.order.proofs.Keeps.{step_keeps, new_consistent}

@@ -1,12 +1,11 @@
 -- The law over every list of calls.
-use Rattle.std.proofs.Common.{◌≡◌, ℕ, zero, suc, ◌+◌, ◌<◌, ◌≤◌, Bool, true, false, cond, not, ◌&&◌, ◌||◌, eqb, ltb, leb, List, [], ◌∷◌, length, is_some, Some, None, Option, sym, refl, ap, ◌∙◌, subst, arith}
+use Rattle.std.proofs.Common.{◌≡◌, ℕ, zero, suc, ◌<◌, ◌≤◌, Bool, true, false, cond, not, ◌&&◌, eqb, ltb, List, length, is_some, Some, None, Option, sym, refl, ap, ◌∙◌, arith}
 use Rattle.std.proofs.lemmas.List.{nil_from_length}
-use Rattle.std.proofs.lemmas.Bool.{eqb-true, eqb-false, lt-ltb, and_parts, and_from, both_ways, not_from_false, cond-true, cond-false, cases_Bool}
+use Rattle.std.proofs.lemmas.Bool.{eqb-true, eqb-false, lt-ltb, and_parts, and_from, both_ways, not_from_false, cond-true, cond-false}
 use Rattle.std.proofs.lemmas.Bool.Decides.{nat_tests}
 use Rattle.notes.specs.Sets.{has}
 use Rattle.notes.proofs.Bits.{has_none}
 use Rattle.parts.specs.Views.{BroadcastView, Runs, FullSuspicion}
-use Rattle.parts.specs.Refusals.{propose_answer}
 use Rattle.parts.specs.Shown.{shown, told}
 use Rattle.parts.proofs.Options.{some_held, none_held}
 use Rattle.parts.specs.declared.broadcast.Broadcast.{Ghosts as Broadcasts}
@@ -20,7 +19,7 @@ use Rattle.total_order.specs.Carrying.{Carrying, fresh, cards_of, card_count, lo
 use Rattle.total_order.specs.declared.call.Call.{Call}
 use Rattle.runs.specs.Runs.{left_by, answers_to}
 use Rattle.runs.specs.Tally.{Tally, nothing, tally}
-use Rattle.runs.specs.Law.{Running, AllCrashesSuspected, NoGuardBites, OneOrder}
+use Rattle.runs.specs.Law.{Running, AllCrashesSuspected, OneOrder}
 use Rattle.runs.proofs.Batches.{Listed}
 use Rattle.runs.proofs.Good.{Means, ledger, Good, good_new, LB, LC, R, few_steps, few_instances, count_is, waiting_is, instance_for_waiting, room_for_decision}
 use Rattle.runs.proofs.Fits.{Fits, fits_calls, steps_bounded, large_settle}

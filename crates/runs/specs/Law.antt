@@ -1,5 +1,5 @@
 -- The law of the order, over every list of calls on a new carrier.
-use Rattle.std.specs.Prelude.{◌≡◌, ℕ, ◌+◌, ◌<◌, ◌≤◌, true, false, ◌⊎◌, List, [], length, Some, count_ones}
+use Rattle.std.specs.Prelude.{◌≡◌, ℕ, ◌+◌, ◌<◌, ◌≤◌, true, false, ◌⊎◌, [], length, Some, count_ones}
 use Rattle.notes.specs.Sets.{has}
 use Rattle.parts.specs.Views.{Quiet}
 use Rattle.parts.specs.Broadcasting.{UniformAgreement}

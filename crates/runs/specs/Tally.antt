@@ -1,6 +1,6 @@
 -- What a list of calls and its answers tell: who posted which note, which cards have crashed, who suspects whom, and how many posts and
 -- steps there were. Only accepted calls count.
-use Rattle.std.specs.Prelude.{ℕ, ◌+◌, Bool, true, false, cond, ◌&&◌, ◌||◌, List, [], ◌∷◌, Some, None, Option, ◌==◌}
+use Rattle.std.specs.Prelude.{ℕ, ◌+◌, Bool, false, cond, ◌&&◌, ◌||◌, List, [], ◌∷◌, Some, None, Option, ◌==◌}
 use Rattle.total_order.specs.Calls.{Told}
 use Rattle.total_order.specs.declared.call.Call.{Call}
 use Rattle.total_order.specs.declared.call.Call.TheVariants.{Post, Carry, Lose, Crash, Suspect, Propose, Take, Settle}

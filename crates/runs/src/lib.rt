@@ -1,4 +1,6 @@
 // Runs: a list of calls on a new carrier. Whatever the broadcast, the consensus and the calls, the cards log the notes in one order.
+#![tactic(auto)]
+
 ghost use Rattle.std.specs.Prelude.{◌≡◌, ℕ, ◌+◌, ◌<◌, ◌≤◌, true, List, [], ◌∷◌, ◌++◌, map, length, IfOk, vec_len, vec_capacity, Decides, OnOk};
 ghost use Rattle.parts.specs.Views.{Quiet};
 ghost use Rattle.parts.specs.Shown.{shown};
@@ -11,12 +13,12 @@ ghost use Rattle.runs.specs.Runs.{left_by, answers_to};
 ghost use Rattle.runs.specs.Tally.{tally};
 ghost use Rattle.runs.specs.Law.{OneOrder, CrashedLogsBeginRunningOnes};
 
-use total_order::call::{Answer, Call};
 use notes::kind::Kind;
 use parts::broadcast::Broadcast;
 use parts::consensus::Consensus;
 use parts::uniform::Uniform;
 use std::alloc::{AllocError, Global};
+use total_order::call::{Answer, Call};
 use total_order::carrier::Carrier;
 
 // The carrier that the calls leave, and what each of them answered.

@@ -1,4 +1,6 @@
 // Worked examples: files and their reports, computed from the definition that the contract of `report` cites.
+#![tactic(auto)]
+
 ghost use Rattle.std.specs.Prelude.{◌≡◌, IfOk, codes};
 ghost use Rattle.order.specs.Words.{step_bound};
 ghost use Rattle.worked.specs.Examples.{board, register, LateNote, OneBatch};

@@ -6,9 +6,9 @@ ghost use Rattle.total_order.specs.Models.{model};
 ghost use Rattle.run_report.specs.Lines.{lines_text, refusal_lines, steps_line};
 ghost use Rattle.run_report.specs.Reports.{log_lines, end_text};
 
-use total_order::call::Answer;
 use parts::broadcast::Broadcast;
 use parts::consensus::Consensus;
+use total_order::call::Answer;
 use total_order::carrier::Carrier;
 
 pub(super) fn end_has_three_parts<B: Broadcast, C: Consensus>(

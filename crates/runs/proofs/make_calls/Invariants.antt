@@ -1,4 +1,4 @@
-use Rattle.std.proofs.Common.{◌≡◌, ◌+◌, ◌≤◌, ◌++◌, map, length, drop, vec_items, vec_len, vec_capacity}
+use Rattle.std.proofs.Common.{◌≡◌, ◌≤◌, ◌++◌, map, length, drop, vec_items, vec_len, vec_capacity}
 use Rattle.total_order.specs.Calls.{told_of}
 use Rattle.total_order.specs.Models.{model}
 use Rattle.runs.specs.Runs.{left_by, answers_to}

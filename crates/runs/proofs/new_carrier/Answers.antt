@@ -1,4 +1,4 @@
-use Rattle.std.proofs.Common.{◌≡◌, ℕ, Bool, List, length, IfOk, Ok, Err, Result, subst}
+use Rattle.std.proofs.Common.{◌≡◌, Bool, List, length, IfOk, Ok, Err, Result, subst}
 use Rattle.std.specs.declared.alloc.AllocError.{AllocError}
 use Rattle.parts.specs.declared.broadcast.Broadcast.{Ghosts as Broadcasts}
 use Rattle.parts.specs.declared.consensus.Consensus.{Ghosts as Consensuses}

@@ -1,4 +1,4 @@
-use Rattle.std.proofs.Common.{◌≡◌, length, sym, subst}
+use Rattle.std.proofs.Common.{length, sym, subst}
 use Rattle.logs.specs.Orders.{in_ranking_order}
 use Rattle.total_order.specs.Carrying.{Carrying, fresh, cards_of}
 use Rattle.total_order.specs.Models.{model}

@@ -1,4 +1,4 @@
-use Rattle.std.proofs.Common.{◌≡◌, sym, ap, arith}
+use Rattle.std.proofs.Common.{sym, ap, arith}
 use Rattle.notes.specs.Models.{bits}
 use Rattle.parts.specs.Refusals.{answered}
 use Rattle.parts.proofs.Accepted.{propose_accepted}

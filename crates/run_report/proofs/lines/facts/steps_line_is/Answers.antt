@@ -1,4 +1,4 @@
-use Rattle.std.proofs.Common.{[], ◌∷◌, ◌++◌, codes, decimal, ap, ◌∙◌}
+use Rattle.std.proofs.Common.{[], ◌++◌, codes, decimal, ap}
 use Rattle.run_report.specs.Lines.{rest_word}
 use Rattle.run_report.proofs.Bytes.{two_words}
 use Rattle.run_report.proofs.lines.facts.steps_line_is.Goals as goal
