@@ -1,2 +1,2 @@
-mod Replies
-pub mod Settles
+pub mod Replies
+mod Settles

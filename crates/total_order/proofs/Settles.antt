@@ -1,33 +1,29 @@
--- Settling, step by step.
-use Rattle.std.proofs.Common.{◌≡◌, ℕ, zero, suc, true, false, refl, ap, ◌∙◌}
-use Rattle.std.proofs.lemmas.Bool.{cond-true, cond-false}
+-- Settling, one step at a time.
+use Rattle.std.proofs.Common.{◌≡◌, ℕ, zero, suc, ◌+◌, ◌-◌, false, cond, ◌||◌, eqb, sym, refl, ap, ◌∙◌, arith}
+use Rattle.std.proofs.lemmas.Bool.{ne_eqb}
 use Rattle.parts.specs.declared.broadcast.Broadcast.{Ghosts as Broadcasts}
 use Rattle.parts.specs.declared.consensus.Consensus.{Ghosts as Consensuses}
-use Rattle.total_order.specs.Carrying.{Carrying, at_rest, advanced, settled, settle_steps}
+use Rattle.total_order.specs.Carrying.{Carrying}
+use Rattle.total_order.specs.Carrying.{at_rest, advanced, settled, settle_steps}
+
+some_left : (n : ℕ) → false ≡ eqb (suc n) 0
+some_left n = sym (ne_eqb (suc n) 0 (omega arith))
+
+one_less : (n : ℕ) → n ≡ suc n - 1
+one_less n = omega arith
 
 module _ {X Y : Type 0} (b : Broadcasts X) (c : Consensuses Y) where
-  pub settled_at_rest : (n : ℕ) (s : Carrying b c) → at_rest b c s ≡ true → settled b c n s ≡ s
+  pub settled_by_steps : (n : ℕ) (s : Carrying b c) → settled b c n s ≡ cond (eqb n 0 || at_rest b c s) s (settled b c (n - 1) (advanced b c s))
   unfolding settled
-  settled_at_rest zero s e = refl
-  settled_at_rest (suc n) s e = cond-true _ _ _ e
+  settled_by_steps zero s = refl
+  settled_by_steps (suc n) s =
+      ap (λ k. cond (at_rest b c s) s (settled b c k (advanced b c s))) (one_less n)
+      ∙ ap (λ t. cond (t || at_rest b c s) s (settled b c (suc n - 1) (advanced b c s))) (some_left n)
 
-  pub no_steps_at_rest : (n : ℕ) (s : Carrying b c) → at_rest b c s ≡ true → settle_steps b c n s ≡ 0
+  pub steps_by_steps : (n : ℕ) (s : Carrying b c) → settle_steps b c n s ≡ cond (eqb n 0 || at_rest b c s) 0 (settle_steps b c (n - 1) (advanced b c s) + 1)
   unfolding settle_steps
-  no_steps_at_rest zero s e = refl
-  no_steps_at_rest (suc n) s e = cond-true _ _ _ e
-
-  pub settled_next : (n m : ℕ) (s : Carrying b c) → n ≡ suc m → at_rest b c s ≡ false → settled b c n s ≡ settled b c m (advanced b c s)
-  unfolding settled
-  settled_next n m s f e = ap (λ k. settled b c k s) f ∙ cond-false _ _ _ e
-
-  pub one_step_more : (n m : ℕ) (s : Carrying b c) → n ≡ suc m → at_rest b c s ≡ false → settle_steps b c n s ≡ suc (settle_steps b c m (advanced b c s))
-  unfolding settle_steps
-  one_step_more n m s f e = ap (λ k. settle_steps b c k s) f ∙ cond-false _ _ _ e
-
-  pub settled_by_none : (n : ℕ) (s : Carrying b c) → n ≡ 0 → settled b c n s ≡ s
-  unfolding settled
-  settled_by_none n s f = ap (λ k. settled b c k s) f
-
-  pub no_steps_by_none : (n : ℕ) (s : Carrying b c) → n ≡ 0 → settle_steps b c n s ≡ 0
-  unfolding settle_steps
-  no_steps_by_none n s f = ap (λ k. settle_steps b c k s) f
+  steps_by_steps zero s = refl
+  steps_by_steps (suc n) s =
+      let more : suc (settle_steps b c n (advanced b c s)) ≡ settle_steps b c n (advanced b c s) + 1 = omega arith in
+      ap (cond (at_rest b c s) 0) more ∙ ap (λ k. cond (at_rest b c s) 0 (settle_steps b c k (advanced b c s) + 1)) (one_less n)
+      ∙ ap (λ t. cond (t || at_rest b c s) 0 (settle_steps b c (suc n - 1) (advanced b c s) + 1)) (some_left n)

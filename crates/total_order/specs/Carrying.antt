@@ -52,6 +52,11 @@ module _ {X Y : Type 0} (b : Broadcasts X) (c : Consensuses Y) where
   abbrev pub counted : Carrying b c → ℕ → ℕ
   counted s answer = if_accepted answer (one_more s.steps) s.steps
 
+  -- The senders of the items of a wire.
+  abbrev pub wire_on : Carrying b c → Wire → List ℕ
+  wire_on s Broadcast = b.wire s.broadcast
+  wire_on s Consensus = c.wire s.consensus
+
   -- How many cards have a log: in a run, all.
   abbrev pub card_count : Carrying b c → ℕ
   card_count s = cond (nat_lt (b.cards s.broadcast) 6) (b.cards s.broadcast) 6
@@ -144,6 +149,13 @@ module _ {X Y : Type 0} (b : Broadcasts X) (c : Consensuses Y) where
       steps = counted s (take_reply s p);
     };
   }
+
+  -- Whether take, and propose, would be accepted.
+  abbrev pub can_take : Carrying b c → ℕ → Bool
+  can_take s p = take_reply s p == 0
+
+  abbrev pub can_propose : Carrying b c → ℕ → Bool
+  can_propose s p = propose_reply s p == 0
 
   -- The lowest card that can take, and that can propose: whose call would not be refused.
   unfoldable pub taker : Carrying b c → Option ℕ

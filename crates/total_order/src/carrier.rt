@@ -19,6 +19,7 @@ pub struct Carrier<B, C> {
 
 mod calling;
 mod cards;
+mod facts;
 mod making;
 mod moves;
 mod settling;

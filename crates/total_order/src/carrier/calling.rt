@@ -11,6 +11,7 @@ use parts::consensus::Consensus;
 use parts::refusal::Refusal;
 
 impl<B: Broadcast, C: Consensus> Carrier<B, C> {
+    #[tactic(auto, unfolding(crate::specs::Calls::calling))]
     pub fn call(&mut self, call: Call) -> Answer
         ensures answer { told_of result ≡ (calling B.Broadcast C.Consensus (model B.Broadcast C.Consensus self.old) call).tells }
         ensures after { model B.Broadcast C.Consensus self.new ≡ (calling B.Broadcast C.Consensus (model B.Broadcast C.Consensus self.old) call).leaves }

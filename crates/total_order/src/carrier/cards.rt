@@ -1,16 +1,18 @@
 // What the carrier shows of its cards, and which of them can propose or take.
-ghost use Rattle.std.specs.Prelude.{◌≡◌, ℕ, ◌<◌, ◌≤◌, true, List, [], IfOk, Decides};
+ghost use Rattle.std.specs.Prelude.{◌≡◌, ℕ, ◌<◌, ◌≤◌, true, List, [], length, IfOk, Decides};
 ghost use Rattle.notes.specs.Models.{bits};
 ghost use Rattle.parts.specs.Views.{Quiet};
 ghost use Rattle.parts.specs.Shown.{shown};
 ghost use Rattle.parts.specs.Broadcasting.{UniformAgreement};
 ghost use Rattle.parts.specs.Refusals.{answered};
-ghost use Rattle.logs.specs.Orders.{number_in};
+ghost use Rattle.notes.specs.Sets.{minus};
+ghost use Rattle.logs.specs.Orders.{number_in, with_all};
 ghost use Rattle.logs.specs.Models.{list_of};
-ghost use Rattle.total_order.specs.Carrying.{card_count, log_at, instance_at, decision_at, waiting, propose_reply, take_reply};
+ghost use Rattle.total_order.specs.Carrying.{card_count, wire_on, log_at, instance_at, decision_at, waiting, propose_reply, take_reply, can_take, can_propose};
 ghost use Rattle.total_order.specs.Models.{model};
 
 use super::Carrier;
+use crate::call::Wire;
 use logs::log::Log;
 use notes::set::NoteSet;
 use parts::broadcast::Broadcast;
@@ -40,10 +42,10 @@ impl<B: Broadcast, C: Consensus> Carrier<B, C> {
         ensures { result.now ≡ log_at B.Broadcast C.Consensus (model B.Broadcast C.Consensus self.now) card }
     {
         if card < 6 {
-            self.logs[card].as_slice()
-        } else {
-            &[]
+            return self.log_at(card).as_slice();
         }
+        self.no_log_beyond(card);
+        &[]
     }
 
     // The instance that a card has come to.
@@ -60,17 +62,42 @@ impl<B: Broadcast, C: Consensus> Carrier<B, C> {
         self.steps
     }
 
+    // How many items are on a wire.
+    pub fn wire_len(&self, wire: Wire) -> usize
+        ensures { result ≡ length (wire_on B.Broadcast C.Consensus (model B.Broadcast C.Consensus self.now) wire) }
+    {
+        match wire {
+            Wire::Broadcast => self.broadcast.wire_len(),
+            Wire::Consensus => self.consensus.wire_len(),
+        }
+    }
+
+    // Whether take would be accepted.
+    pub fn can_take(&self, card: usize) -> bool
+        ensures { result ≡ can_take B.Broadcast C.Consensus (model B.Broadcast C.Consensus self.now) card }
+    {
+        self.decision(card).is_ok()
+    }
+
+    // Whether propose would be accepted.
+    pub fn can_propose(&self, card: usize) -> bool
+        ensures { result ≡ can_propose B.Broadcast C.Consensus (model B.Broadcast C.Consensus self.now) card }
+    {
+        self.may_propose(card).is_ok()
+    }
+
     // The notes handed to a card that are not in its log.
     pub(crate) fn waiting(&self, card: usize) -> NoteSet
         requires { card < 6 }
         ensures { bits result ≡ waiting B.Broadcast C.Consensus (model B.Broadcast C.Consensus self.now) card }
     {
+        self.waiting_is(card);
         self.broadcast
             .handed_to(card)
-            .without(self.logs[card].notes())
+            .without(self.log_at(card).notes())
     }
 
-    // Whether propose would be accepted.
+    // Why propose would be refused, if it would.
     pub(crate) fn may_propose(&self, card: usize) -> Result<(), Refusal>
         ensures { answered result ≡ propose_reply B.Broadcast C.Consensus (model B.Broadcast C.Consensus self.now) card }
     {
@@ -106,6 +133,23 @@ impl<B: Broadcast, C: Consensus> Carrier<B, C> {
             None => Err(Refusal::NothingDecided),
         }
     }
+
+    // The log of one of six cards.
+    fn log_at(&self, card: usize) -> &Log
+        requires { card < 6 }
+        ensures { list_of result.now ≡ log_at B.Broadcast C.Consensus (model B.Broadcast C.Consensus self.now) card }
+    {
+        &self.logs[card]
+    }
+
+    // Two facts, and nothing to do.
+    fn no_log_beyond(&self, card: usize)
+        ensures { 6 ≤ card → log_at B.Broadcast C.Consensus (model B.Broadcast C.Consensus self.now) card ≡ [] }
+    {}
+
+    fn waiting_is(&self, card: usize)
+        ensures { waiting B.Broadcast C.Consensus (model B.Broadcast C.Consensus self.now) card ≡ minus (B.Broadcast.handed (model B.Broadcast C.Consensus self.now).broadcast card) (with_all 0 (log_at B.Broadcast C.Consensus (model B.Broadcast C.Consensus self.now) card)) }
+    {}
 }
 
 impl<B: Uniform, C: Consensus> Carrier<B, C> {

@@ -4,7 +4,7 @@ ghost use Rattle.notes.specs.Models.{bits};
 ghost use Rattle.parts.specs.Refusals.{answered, propose_answer};
 ghost use Rattle.parts.specs.Shown.{told};
 ghost use Rattle.logs.specs.Orders.{appended};
-ghost use Rattle.total_order.specs.Carrying.{one_more, if_accepted, moved, log_at, instance_at, waiting, posting, carrying, losing, crashing, suspecting, proposing, taking};
+ghost use Rattle.total_order.specs.Carrying.{one_more, if_accepted, moved, counted, log_at, instance_at, waiting, propose_reply, posting, carrying, losing, crashing, suspecting, proposing, taking};
 ghost use Rattle.total_order.specs.Models.{model};
 
 use super::Carrier;
@@ -37,12 +37,11 @@ impl<B: Broadcast, C: Consensus> Carrier<B, C> {
         ensures answer { answered result ≡ (carrying B.Broadcast C.Consensus (model B.Broadcast C.Consensus self.old) wire item).answer }
         ensures after { model B.Broadcast C.Consensus self.new ≡ (carrying B.Broadcast C.Consensus (model B.Broadcast C.Consensus self.old) wire item).next }
     {
-        match wire {
-            Wire::Broadcast => self.broadcast.carry(item)?,
-            Wire::Consensus => self.consensus.carry(item)?,
-        }
-        self.steps = one_more(self.steps);
-        Ok(())
+        let answer = match wire {
+            Wire::Broadcast => self.broadcast.carry(item),
+            Wire::Consensus => self.consensus.carry(item),
+        };
+        self.count_if_accepted(answer)
     }
 
     // An item of a wire, from a crashed sender, is lost.
@@ -50,12 +49,11 @@ impl<B: Broadcast, C: Consensus> Carrier<B, C> {
         ensures answer { answered result ≡ (losing B.Broadcast C.Consensus (model B.Broadcast C.Consensus self.old) wire item).answer }
         ensures after { model B.Broadcast C.Consensus self.new ≡ (losing B.Broadcast C.Consensus (model B.Broadcast C.Consensus self.old) wire item).next }
     {
-        match wire {
-            Wire::Broadcast => self.broadcast.lose(item)?,
-            Wire::Consensus => self.consensus.lose(item)?,
-        }
-        self.steps = one_more(self.steps);
-        Ok(())
+        let answer = match wire {
+            Wire::Broadcast => self.broadcast.lose(item),
+            Wire::Consensus => self.consensus.lose(item),
+        };
+        self.count_if_accepted(answer)
     }
 
     // A card crashes; the broadcast and the consensus are told.
@@ -83,12 +81,8 @@ impl<B: Broadcast, C: Consensus> Carrier<B, C> {
         ensures answer { answered result ≡ (proposing B.Broadcast C.Consensus (model B.Broadcast C.Consensus self.old) card).answer }
         ensures after { model B.Broadcast C.Consensus self.new ≡ (proposing B.Broadcast C.Consensus (model B.Broadcast C.Consensus self.old) card).next }
     {
-        if card >= self.card_count() {
-            return Err(Refusal::NoSuchCard);
-        }
-        self.put_forward(card)?;
-        self.steps = one_more(self.steps);
-        Ok(())
+        let answer = self.put_forward(card);
+        self.count_if_accepted(answer)
     }
 
     // A card appends what is decided in its instance to its log, and moves to the next instance.
@@ -99,8 +93,25 @@ impl<B: Broadcast, C: Consensus> Carrier<B, C> {
         let decided = self.decision(card)?;
         self.append(card, decided);
         self.instances[card] = one_more(self.instances[card]);
-        self.steps = one_more(self.steps);
+        self.count_step();
         Ok(())
+    }
+
+    // Only an accepted call is a step.
+    fn count_if_accepted(&mut self, answer: Result<(), Refusal>) -> Result<(), Refusal>
+        ensures same { result ≡ answer }
+        ensures after { model B.Broadcast C.Consensus self.new ≡ moved B.Broadcast C.Consensus (model B.Broadcast C.Consensus self.old) (model B.Broadcast C.Consensus self.old).broadcast (model B.Broadcast C.Consensus self.old).consensus (counted B.Broadcast C.Consensus (model B.Broadcast C.Consensus self.old) (answered answer)) }
+    {
+        if answer.is_ok() {
+            self.count_step();
+        }
+        answer
+    }
+
+    fn count_step(&mut self)
+        ensures { model B.Broadcast C.Consensus self.new ≡ moved B.Broadcast C.Consensus (model B.Broadcast C.Consensus self.old) (model B.Broadcast C.Consensus self.old).broadcast (model B.Broadcast C.Consensus self.old).consensus (one_more (model B.Broadcast C.Consensus self.old).steps) }
+    {
+        self.steps = one_more(self.steps);
     }
 
     // Whether a note is in the book.
@@ -110,8 +121,21 @@ impl<B: Broadcast, C: Consensus> Carrier<B, C> {
         note < self.ranking.len()
     }
 
-    // Proposes the waiting notes of a card in its instance.
+    // Proposes for a card, without counting a step.
     fn put_forward(&mut self, card: usize) -> Result<(), Refusal>
+        ensures answer { answered result ≡ propose_reply B.Broadcast C.Consensus (model B.Broadcast C.Consensus self.old) card }
+        ensures after { model B.Broadcast C.Consensus self.new ≡ moved B.Broadcast C.Consensus (model B.Broadcast C.Consensus self.old) (model B.Broadcast C.Consensus self.old).broadcast
+            (if_accepted B.Broadcast C.Consensus (answered result) (C.Consensus.proposing (model B.Broadcast C.Consensus self.old).consensus (instance_at B.Broadcast C.Consensus (model B.Broadcast C.Consensus self.old) card) card (waiting B.Broadcast C.Consensus (model B.Broadcast C.Consensus self.old) card)) (model B.Broadcast C.Consensus self.old).consensus)
+            (model B.Broadcast C.Consensus self.old).steps }
+    {
+        if card >= self.card_count() {
+            return Err(Refusal::NoSuchCard);
+        }
+        self.put_forward_waiting(card)
+    }
+
+    // Proposes the waiting notes of a card in its instance.
+    fn put_forward_waiting(&mut self, card: usize) -> Result<(), Refusal>
         requires { card < 6 }
         ensures answer { answered result ≡ propose_answer (told C.Consensus (model B.Broadcast C.Consensus self.old).consensus) (instance_at B.Broadcast C.Consensus (model B.Broadcast C.Consensus self.old) card) card (waiting B.Broadcast C.Consensus (model B.Broadcast C.Consensus self.old) card) }
         ensures after { model B.Broadcast C.Consensus self.new ≡ moved B.Broadcast C.Consensus (model B.Broadcast C.Consensus self.old) (model B.Broadcast C.Consensus self.old).broadcast

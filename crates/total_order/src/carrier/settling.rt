@@ -1,9 +1,10 @@
 // Rest, and settle, which goes towards it.
-ghost use Rattle.std.specs.Prelude.{◌≡◌, ℕ};
-ghost use Rattle.total_order.specs.Carrying.{taker, proposer, at_rest, advanced, settled, settle_steps};
+ghost use Rattle.std.specs.Prelude.{◌≡◌, ℕ, ◌+◌, ◌-◌, ◌<◌, true, if◌then◌else◌};
+ghost use Rattle.total_order.specs.Carrying.{taker, proposer, at_rest, take_or_propose, advanced, settled, settle_steps};
 ghost use Rattle.total_order.specs.Models.{model};
 
 use super::Carrier;
+use super::facts::{lowest_proposer, lowest_taker, rest_is, settling_is, step_is};
 use crate::call::{Settling, Wire};
 use parts::broadcast::Broadcast;
 use parts::consensus::Consensus;
@@ -16,7 +17,11 @@ impl<B: Broadcast, C: Consensus> Carrier<B, C> {
         ensures rest { result.at_rest ≡ at_rest B.Broadcast C.Consensus (settled B.Broadcast C.Consensus limit (model B.Broadcast C.Consensus self.old)) }
         ensures after { model B.Broadcast C.Consensus self.new ≡ settled B.Broadcast C.Consensus limit (model B.Broadcast C.Consensus self.old) }
     {
-        let steps = self.advance_towards_rest(limit);
+        let mut left = limit;
+        while self.goes_on(left) {
+            left -= 1;
+        }
+        let steps = limit - left;
         Settling {
             steps,
             at_rest: self.is_at_rest(),
@@ -27,45 +32,56 @@ impl<B: Broadcast, C: Consensus> Carrier<B, C> {
     pub fn is_at_rest(&self) -> bool
         ensures { result ≡ at_rest B.Broadcast C.Consensus (model B.Broadcast C.Consensus self.now) }
     {
-        let no_item = (self.broadcast.wire_len() == 0) & (self.consensus.wire_len() == 0);
+        rest_is(self);
+        let no_item = (self.wire_len(Wire::Broadcast) == 0) & (self.wire_len(Wire::Consensus) == 0);
         no_item & (self.taker().is_none() & self.proposer().is_none())
     }
 
-    // The steps that were made.
-    fn advance_towards_rest(&mut self, limit: usize) -> usize
-        ensures steps { result ≡ settle_steps B.Broadcast C.Consensus limit (model B.Broadcast C.Consensus self.old) }
-        ensures after { model B.Broadcast C.Consensus self.new ≡ settled B.Broadcast C.Consensus limit (model B.Broadcast C.Consensus self.old) }
+    // Makes one of the steps that are left, if there is one and the carrier is not at rest; whether it made it.
+    fn goes_on(&mut self, left: usize) -> bool
+        ensures some { result ≡ true → 0 < left }
+        ensures leaves { settled B.Broadcast C.Consensus left (model B.Broadcast C.Consensus self.old) ≡ (if result then settled B.Broadcast C.Consensus (left - 1) (model B.Broadcast C.Consensus self.new) else model B.Broadcast C.Consensus self.new) }
+        ensures steps { settle_steps B.Broadcast C.Consensus left (model B.Broadcast C.Consensus self.old) ≡ (if result then settle_steps B.Broadcast C.Consensus (left - 1) (model B.Broadcast C.Consensus self.new) + 1 else 0) }
     {
-        let mut made = 0;
-        while made < limit {
-            if self.is_at_rest() {
-                return made;
-            }
-            self.advance();
-            made += 1;
+        settling_is(self, left);
+        if left == 0 || self.is_at_rest() {
+            return false;
         }
-        made
+        self.advance();
+        true
     }
 
     // The first possible step.
     fn advance(&mut self)
         ensures { model B.Broadcast C.Consensus self.new ≡ advanced B.Broadcast C.Consensus (model B.Broadcast C.Consensus self.old) }
     {
-        if self.broadcast.wire_len() > 0 {
+        step_is(self);
+        if self.wire_len(Wire::Broadcast) > 0 {
             let _ = self.carry(Wire::Broadcast, 0);
             return;
         }
-        if self.consensus.wire_len() > 0 {
+        if self.wire_len(Wire::Consensus) > 0 {
             let _ = self.carry(Wire::Consensus, 0);
             return;
         }
-        if let Some(card) = self.taker() {
-            let _ = self.take(card);
-            return;
-        }
-        if let Some(card) = self.proposer() {
-            let _ = self.propose(card);
-            return;
+        let takes = self.taker();
+        let proposes = self.proposer();
+        self.take_or_propose(takes, proposes);
+    }
+
+    fn take_or_propose(&mut self, takes: Option<usize>, proposes: Option<usize>)
+        ensures { model B.Broadcast C.Consensus self.new ≡ take_or_propose B.Broadcast C.Consensus (model B.Broadcast C.Consensus self.old) takes proposes }
+    {
+        match takes {
+            Some(card) => {
+                let _ = self.take(card);
+            }
+            None => match proposes {
+                Some(card) => {
+                    let _ = self.propose(card);
+                }
+                None => {}
+            },
         }
     }
 
@@ -73,8 +89,10 @@ impl<B: Broadcast, C: Consensus> Carrier<B, C> {
     fn taker(&self) -> Option<usize>
         ensures { result ≡ taker B.Broadcast C.Consensus (model B.Broadcast C.Consensus self.now) }
     {
-        for card in 0..self.card_count() {
-            if self.decision(card).is_ok() {
+        let cards = self.card_count();
+        for card in 0..cards {
+            lowest_taker(self, card);
+            if self.can_take(card) {
                 return Some(card);
             }
         }
@@ -85,8 +103,10 @@ impl<B: Broadcast, C: Consensus> Carrier<B, C> {
     fn proposer(&self) -> Option<usize>
         ensures { result ≡ proposer B.Broadcast C.Consensus (model B.Broadcast C.Consensus self.now) }
     {
-        for card in 0..self.card_count() {
-            if self.may_propose(card).is_ok() {
+        let cards = self.card_count();
+        for card in 0..cards {
+            lowest_proposer(self, card);
+            if self.can_propose(card) {
                 return Some(card);
             }
         }
