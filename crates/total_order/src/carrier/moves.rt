@@ -81,7 +81,7 @@ impl<B: Broadcast, C: Consensus> Carrier<B, C> {
         ensures answer { answered result ≡ (proposing B.Broadcast C.Consensus (model B.Broadcast C.Consensus self.old) card).answer }
         ensures after { model B.Broadcast C.Consensus self.new ≡ (proposing B.Broadcast C.Consensus (model B.Broadcast C.Consensus self.old) card).next }
     {
-        let answer = self.put_forward(card);
+        let answer = self.propose_waiting(card);
         self.count_if_accepted(answer)
     }
 
@@ -122,7 +122,7 @@ impl<B: Broadcast, C: Consensus> Carrier<B, C> {
     }
 
     // Proposes for a card, without counting a step.
-    fn put_forward(&mut self, card: usize) -> Result<(), Refusal>
+    fn propose_waiting(&mut self, card: usize) -> Result<(), Refusal>
         ensures answer { answered result ≡ propose_reply B.Broadcast C.Consensus (model B.Broadcast C.Consensus self.old) card }
         ensures after { model B.Broadcast C.Consensus self.new ≡ moved B.Broadcast C.Consensus (model B.Broadcast C.Consensus self.old) (model B.Broadcast C.Consensus self.old).broadcast
             (if_accepted B.Broadcast C.Consensus (answered result) (C.Consensus.proposing (model B.Broadcast C.Consensus self.old).consensus (instance_at B.Broadcast C.Consensus (model B.Broadcast C.Consensus self.old) card) card (waiting B.Broadcast C.Consensus (model B.Broadcast C.Consensus self.old) card)) (model B.Broadcast C.Consensus self.old).consensus)
@@ -131,11 +131,11 @@ impl<B: Broadcast, C: Consensus> Carrier<B, C> {
         if card >= self.card_count() {
             return Err(Refusal::NoSuchCard);
         }
-        self.put_forward_waiting(card)
+        self.put_forward(card)
     }
 
     // Proposes the waiting notes of a card in its instance.
-    fn put_forward_waiting(&mut self, card: usize) -> Result<(), Refusal>
+    fn put_forward(&mut self, card: usize) -> Result<(), Refusal>
         requires { card < 6 }
         ensures answer { answered result ≡ propose_answer (told C.Consensus (model B.Broadcast C.Consensus self.old).consensus) (instance_at B.Broadcast C.Consensus (model B.Broadcast C.Consensus self.old) card) card (waiting B.Broadcast C.Consensus (model B.Broadcast C.Consensus self.old) card) }
         ensures after { model B.Broadcast C.Consensus self.new ≡ moved B.Broadcast C.Consensus (model B.Broadcast C.Consensus self.old) (model B.Broadcast C.Consensus self.old).broadcast

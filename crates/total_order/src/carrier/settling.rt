@@ -17,11 +17,7 @@ impl<B: Broadcast, C: Consensus> Carrier<B, C> {
         ensures rest { result.at_rest ≡ at_rest B.Broadcast C.Consensus (settled B.Broadcast C.Consensus limit (model B.Broadcast C.Consensus self.old)) }
         ensures after { model B.Broadcast C.Consensus self.new ≡ settled B.Broadcast C.Consensus limit (model B.Broadcast C.Consensus self.old) }
     {
-        let mut left = limit;
-        while self.goes_on(left) {
-            left -= 1;
-        }
-        let steps = limit - left;
+        let steps = self.advance_towards_rest(limit);
         Settling {
             steps,
             at_rest: self.is_at_rest(),
@@ -35,6 +31,18 @@ impl<B: Broadcast, C: Consensus> Carrier<B, C> {
         rest_is(self);
         let no_item = (self.wire_len(Wire::Broadcast) == 0) & (self.wire_len(Wire::Consensus) == 0);
         no_item & (self.taker().is_none() & self.proposer().is_none())
+    }
+
+    // The steps that were made.
+    fn advance_towards_rest(&mut self, limit: usize) -> usize
+        ensures steps { result ≡ settle_steps B.Broadcast C.Consensus limit (model B.Broadcast C.Consensus self.old) }
+        ensures after { model B.Broadcast C.Consensus self.new ≡ settled B.Broadcast C.Consensus limit (model B.Broadcast C.Consensus self.old) }
+    {
+        let mut left = limit;
+        while self.goes_on(left) {
+            left -= 1;
+        }
+        limit - left
     }
 
     // Makes one of the steps that are left, if there is one and the carrier is not at rest; whether it made it.

@@ -1,7 +1,7 @@
 use Rattle.std.proofs.Common.{◌≡◌, ◌+◌, ◌-◌, ◌≤◌}
 use Rattle.total_order.specs.Models.{model}
 use Rattle.total_order.specs.Carrying.{settled, settle_steps}
-use Rattle.total_order.proofs.carrier.Carrier.settle.Given as goal
+use Rattle.total_order.proofs.carrier.Carrier.advance_towards_rest.Given as goal
 
 -- What is left of the limit leads to the same carrier, and makes the other steps.
 abbrev pub invariant-loop-left : goal.invariant-loop-left
