@@ -3,7 +3,7 @@
 
 Usage: tools/compare.py COUNT [START] [PROGRAM]
 
-START picks another sequence of schedules; PROGRAM is target/bin/carrier if it is left out.
+START picks another sequence of schedules; PROGRAM is crates/carrier/out/carrier if it is left out.
 """
 import os
 import random
@@ -97,7 +97,7 @@ def main():
     count = int(sys.argv[1])
     rng = random.Random(int(sys.argv[2]) if len(sys.argv) > 2 else 1)
     top = os.path.dirname(os.path.dirname(os.path.abspath(__file__)))
-    program = sys.argv[3] if len(sys.argv) > 3 else os.path.join(top, "target", "bin", "carrier")
+    program = sys.argv[3] if len(sys.argv) > 3 else os.path.join(top, "crates", "carrier", "out", "carrier")
     settled = differ = 0
     for _ in range(count):
         schedule = random_schedule(rng)

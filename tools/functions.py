@@ -5,7 +5,7 @@ Usage: tools/functions.py            writes docs/FUNCTIONS.md
        tools/functions.py --check    says whether that page is up to date, and which public function has no edit; exit status 1 if any
 
 An edit belongs to the function whose text it changes, and one of a constant to the functions that name it. One of a private function counts for the public functions that call it, by way of
-others or at once. A function that a trait declares has no code of its own: its contract holds for every implementation. Nobody calls the
+others or at once. A method of a trait that only calls the type's own method of that name has that one's edits. A function that a trait declares has no code of its own: its contract holds for every implementation. Nobody calls the
 functions of a program from outside, so of these only those with a contract are listed.
 """
 import os
@@ -72,11 +72,11 @@ def owners(text):
     pattern = re.compile(r"^(?:pub(?:\(crate\))? )?(?P<kind>impl|trait)\b(?P<head>[^{]*)\{", re.M)
     for match in pattern.finditer(text):
         head = re.sub(r"<[^<>]*>", "", re.sub(r"<[^<>]*>", "", match.group("head")))
-        named = re.search(r"\bas (\w+)", head)
+        named = re.search(r"(\w+) for (\w+)", head)
         if match.group("kind") == "trait":
             name, trait = re.match(r"\s*(\w+)", head).group(1), True
         else:
-            name, trait = (named.group(1), True) if named else (re.search(r"(\w+)", head).group(1), False)
+            name, trait = (named.group(2) + " as " + named.group(1), True) if named else (re.search(r"(\w+)", head).group(1), False)
         yield {"start": match.start(), "end": past(text, match.end() - 1), "name": name, "trait": trait, "declares": match.group("kind") == "trait"}
 
 
@@ -133,6 +133,11 @@ def table(crate):
             inside = [f for f in known if constant.group() in f.body]
         for f in {p for g in inside for p in public_above(g, known, set())} & set(edited):
             edited[f].append("`%s`" % name if folder == "must-fail" else name)
+    for f in edited:
+        # A method of a trait that is the type's own method of that name has that one's edits.
+        own = [g for g in known if f.owner and " as " in f.owner["name"] and g.label() == f.owner["name"].split(" as ")[0] + "::" + f.name]
+        if own and not edited[f] and calls(f, own[0]):
+            edited[f] = edited[own[0]]
     rows, bare = [], []
     for f in edited:
         declared = f.owner is not None and f.owner["declares"]

@@ -18,6 +18,7 @@ use tables::ballots::Ballots;
 // A proposer sends in at most 6 rounds, to at most 5 others in each.
 const ITEMS_OF_A_PROPOSAL: u32 = 30;
 
+// Each method is the one of the same name of Flooding itself.
 impl Consensus for Flooding {
     ghost State = { FloodingState };
 
@@ -99,30 +100,30 @@ impl Consensus for Flooding {
     }
 
     fn card_count(&self) -> usize {
-        self.cards.count()
+        self.card_count()
     }
 
     fn has_crashed(&self, card: usize) -> bool {
-        self.cards.has_crashed(card)
+        self.has_crashed(card)
     }
 
     fn suspects(&self, by: usize, card: usize) -> bool {
-        self.cards.suspects(by, card)
+        self.suspects(by, card)
     }
 
     fn wire_len(&self) -> usize {
-        self.wire.len()
+        self.wire_len()
     }
 
     fn sender_of(&self, item: usize) -> Option<usize> {
-        self.wire.sender_of(item)
+        self.sender_of(item)
     }
 
     fn proposal_of(&self, instance: usize, card: usize) -> Option<NoteSet> {
-        self.proposals.of(instance, card)
+        self.proposal_of(instance, card)
     }
 
     fn decision_of(&self, instance: usize, card: usize) -> Option<NoteSet> {
-        self.decisions.of(instance, card)
+        self.decision_of(instance, card)
     }
 }
