@@ -6,14 +6,10 @@ ghost use Rattle.flooding.specs.Means.{new_means, propose_means, carry_means, lo
 ghost use Rattle.flooding.specs.Lawful.{lawful};
 
 use super::Flooding;
-use crate::mail::Mail;
-use crate::seats::Seats;
-use cards::Cards;
 use notes::set::NoteSet;
 use parts::consensus::Consensus;
 use parts::refusal::Refusal;
 use std::alloc::{AllocError, Global};
-use tables::ballots::Ballots;
 
 // A proposer sends in at most 6 rounds, to at most 5 others in each.
 const ITEMS_OF_A_PROPOSAL: u32 = 30;
