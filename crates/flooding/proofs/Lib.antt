@@ -1,2 +1,3 @@
 pub mod Rooms
 mod Lawful
+pub mod Holds

@@ -39,13 +39,13 @@ use Rattle.flooding.specs.Leaves.{brings_parts, Accounted, leave_whole}
 
 -- A new one.
 
-new_shaped : {X : Type 0} (d : X) → Shaped (replicate 32 (replicate 6 d))
+pub new_shaped : {X : Type 0} (d : X) → Shaped (replicate 32 (replicate 6 d))
 new_shaped d = record { instances = refl; row = λ k h. new_row 32 k (replicate 6 d) h }
 
-new_seat : (k p : ℕ) → seat_in new_seats k p ≡ no_seat
+pub new_seat : (k p : ℕ) → seat_in new_seats k p ≡ no_seat
 new_seat k p = same_rows 32 6 k p no_seat
 
-new_ballot : (k p : ℕ) → ballot_in new_ballots k p ≡ None
+pub new_ballot : (k p : ℕ) → ballot_in new_ballots k p ≡ None
 new_ballot k p = same_rows 32 6 k p None
 
 new_stands : (n k p : ℕ) → Stands n beginning new_ballots k p (ballot_in new_ballots k p) (seat_in new_seats k p)
@@ -223,7 +223,7 @@ lose_made x i m h =
 
 -- A crash and a suspicion.
 
-same_counted : (c e : CardState) (q : ℕ) (s : SeatState) (m : ℕ) → ((y : ℕ) → suspects_in e q y ≡ suspects_in c q y) → all_counted e q s m ≡ all_counted c q s m
+pub same_counted : (c e : CardState) (q : ℕ) (s : SeatState) (m : ℕ) → ((y : ℕ) → suspects_in e q y ≡ suspects_in c q y) → all_counted e q s m ≡ all_counted c q s m
 same_counted c e q s zero h = refl
 same_counted c e q s (suc m) h = cc (same_counted c e q s m h, h m)
 

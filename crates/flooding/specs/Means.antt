@@ -107,14 +107,17 @@ carry_means x i g h =
     let t = carried_item x.cards x.wire (flooding_work x) i h in
     rw t.1 (arrived_means x i t.0 g t.1 t.2)
 
-pub lose_means : (x : FloodingState) (i : ℕ) → SettledFlooding x → lose_answer (seen x).net i ≡ 0 → Lost (seen x) (seen (lose_on x i)) i
-lose_means x i g h =
+pub loss_is_lost : (x : FloodingState) (i : ℕ) → lose_answer (seen x).net i ≡ 0 → Lost (seen x) (seen (lose_on x i)) i
+loss_is_lost x i h =
     let y = lost_item x.cards x.wire (flooding_work x) i h in
     record {
       net = record { same_cards = same_cards x.cards _ _ _ _; item_leaves = senders_removed x.wire i; work_falls = omega (arith, length-remove x.wire i y.2) };
       proposals_stay = λ k p. refl;
       decisions_stay = λ k p. refl;
     }
+
+pub lose_means : (x : FloodingState) (i : ℕ) → SettledFlooding x → lose_answer (seen x).net i ≡ 0 → Lost (seen x) (seen (lose_on x i)) i
+lose_means x i g h = loss_is_lost x i h
 
 -- A crashed card sends no more.
 less_to_send : (c : CardState) (p q : ℕ) (s : SeatState) → SoundCards c → p < c.count → to_send (with_crash c p) s q ≤ to_send c s q
@@ -127,17 +130,20 @@ less_to_send c p q s g h =
     omega arith)
     (cases_Bool (crashed_in (with_crash c p) q))
 
-pub crash_means : (x : FloodingState) (p : ℕ) → SettledFlooding x → crash_answer (seen x).net p ≡ 0 → Crashed (seen x) (seen (crash_on x p)) p
-crash_means x p g h =
+pub crash_is_crashed : (x : FloodingState) (p : ℕ) → SoundCards x.cards → crash_answer (seen x).net p ≡ 0 → Crashed (seen x) (seen (crash_on x p)) p
+crash_is_crashed x p g h =
     let c = x.cards in
     let f = crash_accepted (seen x).net p h in
     let less = total_below (λ k. total (λ q. to_send (with_crash c p) (seat_in x.seats k q) q) c.count) (λ k. total (λ q. to_send c (seat_in x.seats k q) q) c.count) 32
-    (λ k _. total_below (λ q. to_send (with_crash c p) (seat_in x.seats k q) q) (λ q. to_send c (seat_in x.seats k q) q) c.count (λ q _. less_to_send c p q (seat_in x.seats k q) g.whole.sound f.0)) in
+    (λ k _. total_below (λ q. to_send (with_crash c p) (seat_in x.seats k q) q) (λ q. to_send c (seat_in x.seats k q) q) c.count (λ q _. less_to_send c p q (seat_in x.seats k q) g f.0)) in
     record {
-      net = net_crashed c p _ _ _ _ g.whole.sound f.0 (part_left (λ y. y.from) (elsewhere p) x.wire) (omega (arith, less, length_left (elsewhere p) x.wire));
+      net = net_crashed c p _ _ _ _ g f.0 (part_left (λ y. y.from) (elsewhere p) x.wire) (omega (arith, less, length_left (elsewhere p) x.wire));
       proposals_stay = λ k q. refl;
       decisions_stay = λ k q. refl;
     }
+
+pub crash_means : (x : FloodingState) (p : ℕ) → SettledFlooding x → crash_answer (seen x).net p ≡ 0 → Crashed (seen x) (seen (crash_on x p)) p
+crash_means x p g h = crash_is_crashed x p g.whole.sound h
 
 pub suspect_means : (x : FloodingState) (q p : ℕ) → SettledFlooding x → suspect_answer (seen x).net q p ≡ 0 → Suspected (seen x) (seen (suspect_on x q p)) q p
 suspect_means x q p g h =
