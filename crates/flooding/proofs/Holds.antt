@@ -1,16 +1,15 @@
 -- That `new`, a loss and a crash make floodings which hold together as a whole, and what a loss and a crash mean of such a one.
-use Rattle.std.proofs.Common.{◌≡◌, ℕ, suc, ◌≤◌, true, false, cond, not, ◌&&◌, ◌||◌, eqb, ltb, ◌⊎◌, is_some, Some, None, sym, refl, ap, ◌∙◌, subst, inl, inr, ⊎_elim, arith}
+use Rattle.std.proofs.Common.{◌≡◌, ℕ, suc, true, false, cond, not, ◌&&◌, ◌||◌, eqb, ltb, is_some, None, sym, refl, ap, ◌∙◌, subst, inl, inr, ⊎_elim, arith}
 use borrow.Author.Tests.{clash}
-use Rattle.std.specs.List.{slice_get, remove}
 use Rattle.std.proofs.lemmas.Bool.{and_left, and_right, or_parts, or_cases, eqb-false, ne_eqb, not-true, not_from_false, both_ways}
 use Rattle.notes.specs.Sets.{has}
 use Rattle.notes.proofs.Bits.{has_none}
 use Rattle.parts.specs.Refusals.{lose_answer, crash_answer}
 use Rattle.parts.specs.Deciding.{Lost, Crashed}
 use Rattle.parts.proofs.Accepted.{crash_accepted}
-use Rattle.cards.specs.Cards.{CardState, crashed_in, new_cards, with_crash}
+use Rattle.cards.specs.Cards.{crashed_in, new_cards, with_crash}
 use Rattle.tables.specs.Tables.{new_ballots, ballot_in}
-use Rattle.wire.specs.Wires.{any_of, elsewhere}
+use Rattle.wire.specs.Wires.{elsewhere}
 use Rattle.wire.proofs.Items.{all_removed, all_left, any_split, any_left}
 use Rattle.cards.proofs.Lists.{same_rows}
 use Rattle.cards.proofs.Nets.{new_sound, crash_sound, crash_more}
@@ -18,7 +17,7 @@ use Rattle.wire.proofs.Taken.{lost_item}
 use Rattle.histories.specs.Moves.{Later, beginning}
 use Rattle.histories.proofs.Kept.{moves_make_histories}
 use Rattle.flooding.specs.Seats.{SeatState, no_seat, new_seats, seat_in, all_counted}
-use Rattle.flooding.specs.Flooding.{FloodingState, flooding_work, seen, new_flooding, lose_on, crash_on, may_move}
+use Rattle.flooding.specs.Flooding.{FloodingState, flooding_work, seen, new_flooding, lose_on, crash_on}
 use Rattle.flooding.specs.Made.{fates_of, True, brings, Tied, Underway, MadeFlooding}
 use Rattle.flooding.specs.Keeps.{new_shaped, new_seat, new_ballot, same_counted}
 use Rattle.flooding.specs.Leaves.{brings_parts}

@@ -1,4 +1,4 @@
-// Worked examples: files and their reports, computed from the definition that the contract of `report` cites.
+// Worked examples: whole runs, and files with their reports, computed from the definitions that the contracts of the code cite.
 #![tactic(auto)]
 
 ghost use Rattle.std.specs.Prelude.{◌≡◌, IfOk, codes};

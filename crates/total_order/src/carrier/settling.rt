@@ -1,5 +1,5 @@
 // Rest, and settle, which goes towards it.
-ghost use Rattle.std.specs.Prelude.{◌≡◌, ℕ, ◌+◌, ◌-◌, ◌<◌, true, if◌then◌else◌};
+ghost use Rattle.std.specs.Prelude.{◌≡◌, ℕ, ◌+◌, ◌-◌, ◌<◌, true, None, if◌then◌else◌};
 ghost use Rattle.total_order.specs.Carrying.{taker, proposer, at_rest, take_or_propose, advanced, settled, settle_steps};
 ghost use Rattle.total_order.specs.Models.{model};
 
@@ -72,24 +72,23 @@ impl<B: Broadcast, C: Consensus> Carrier<B, C> {
             let _ = self.carry(Wire::Consensus, 0);
             return;
         }
-        let takes = self.taker();
-        let proposes = self.proposer();
-        self.take_or_propose(takes, proposes);
-    }
-
-    fn take_or_propose(&mut self, takes: Option<usize>, proposes: Option<usize>)
-        ensures { model B.Broadcast C.Consensus self.new ≡ take_or_propose B.Broadcast C.Consensus (model B.Broadcast C.Consensus self.old) takes proposes }
-    {
-        match takes {
+        match self.taker() {
             Some(card) => {
                 let _ = self.take(card);
             }
-            None => match proposes {
-                Some(card) => {
-                    let _ = self.propose(card);
-                }
-                None => {}
-            },
+            None => self.propose_at_the_lowest(),
+        }
+    }
+
+    // Proposes at the lowest card that can.
+    fn propose_at_the_lowest(&mut self)
+        ensures { model B.Broadcast C.Consensus self.new ≡ take_or_propose B.Broadcast C.Consensus (model B.Broadcast C.Consensus self.old) None (proposer B.Broadcast C.Consensus (model B.Broadcast C.Consensus self.old)) }
+    {
+        match self.proposer() {
+            Some(card) => {
+                let _ = self.propose(card);
+            }
+            None => {}
         }
     }
 
