@@ -3,7 +3,7 @@
 
 usage: tools/respell.py [--list]        at the top; --list prints what would change, and names that would fall together
 
-It is for one run, behind the toolchain's own script that turns an older repository, and does nothing where nothing is left to turn.
+It is for one run, behind the toolchain's own script that turns an older repository; a second run is not meant.
 Names of the source's functions and types stay, and so do the names of goals, which the toolchain makes.
 """
 import collections
