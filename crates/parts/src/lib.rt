@@ -5,3 +5,4 @@ pub mod broadcast;
 pub mod consensus;
 pub mod refusal;
 pub mod uniform;
+pub mod wires;
