@@ -1,5 +1,5 @@
 -- Each call of all-ack, from what it makes of the state to what the interface says of it.
-use Rattle.std.specs.Prelude.{◌≡◌, ℕ, ◌<◌, true, false, length, Some, None, refl}
+use Rattle.std.specs.Prelude.{◌≡◌, ℕ, ◌<◌, true, false, length, Some, None, refl, Ok}
 use Rattle.std.proofs.Common.{sym, ap, ◌∙◌, ⊎_elim, arith}
 use borrow.Author.Tests.{clash}
 use Rattle.std.specs.List.{slice_get}
@@ -39,10 +39,10 @@ hand_hands x y p e l up =
       crashed_sets_stay = λ q h. noted_all_others_stay x.handed p (complete x p x.spread.cards.count) q (λ z. both_ways _ (ap (crashed_in y.spread.cards) z ∙ up) h) ∙ ap (λ t. set_in t q) e;
     }
 
-pub post_made : (x : AllAckState) (p m : ℕ) → MadeAllAck x → post_answer (seen x) p m ≡ 0 → MadeAllAck (post_on x p m)
+pub post_made : (x : AllAckState) (p m : ℕ) → MadeAllAck x → post_answer (seen x) p m ≡ Ok tt → MadeAllAck (post_on x p m)
 post_made x p m g h = let f = post_accepted (seen x) p m h in keeps.post_made x p m g f.0 f.1 f.2
 
-pub post_means : (x : AllAckState) (p m : ℕ) → MadeAllAck x → post_answer (seen x) p m ≡ 0 → Posted 30 (seen x) (seen (post_on x p m)) p m
+pub post_means : (x : AllAckState) (p m : ℕ) → MadeAllAck x → post_answer (seen x) p m ≡ Ok tt → Posted 30 (seen x) (seen (post_on x p m)) p m
 post_means x p m g h =
     let f = post_accepted (seen x) p m h in
     let s = g.whole.below.whole in
@@ -53,7 +53,7 @@ post_means x p m g h =
       handed_more = hand_hands _ x p refl (omega (arith, g.whole.sets, f.0, s.sound.few)) f.1;
     }
 
-pub carry_made : (x : AllAckState) (i : ℕ) → MadeAllAck x → carry_answer (seen x).net i ≡ 0 → MadeAllAck (carry_on x i)
+pub carry_made : (x : AllAckState) (i : ℕ) → MadeAllAck x → carry_answer (seen x).net i ≡ Ok tt → MadeAllAck (carry_on x i)
 carry_made x i g h = let t = carried_item x.spread.cards x.spread.wire (spread_work x.spread) i h in rw t.1 (keeps.receive_made x i t.0 g t.1)
 
 receive_means : (x : AllAckState) (i : ℕ) (y : Item ℕ) → MadeAllAck x → slice_get x.spread.wire i ≡ Some y → i < length x.spread.wire
@@ -63,25 +63,25 @@ receive_means x i y g e l =
     let u = item_at x.spread i y s e in
     record { net = receive_net x.spread i y s e l; posters_stay = λ j. refl; handed_more = hand_hands _ x y.to refl (omega (arith, g.whole.sets, u.card, s.sound.few)) u.up }
 
-pub carry_means : (x : AllAckState) (i : ℕ) → MadeAllAck x → carry_answer (seen x).net i ≡ 0 → Carried (seen x) (seen (carry_on x i))
+pub carry_means : (x : AllAckState) (i : ℕ) → MadeAllAck x → carry_answer (seen x).net i ≡ Ok tt → Carried (seen x) (seen (carry_on x i))
 carry_means x i g h = let t = carried_item x.spread.cards x.spread.wire (spread_work x.spread) i h in rw t.1 (receive_means x i t.0 g t.1 t.2)
 
-pub lose_made : (x : AllAckState) (i : ℕ) → MadeAllAck x → lose_answer (seen x).net i ≡ 0 → MadeAllAck (lose_on x i)
+pub lose_made : (x : AllAckState) (i : ℕ) → MadeAllAck x → lose_answer (seen x).net i ≡ Ok tt → MadeAllAck (lose_on x i)
 lose_made x i g h = let t = lost_item x.spread.cards x.spread.wire (spread_work x.spread) i h in keeps.lose_made x i t.0 g t.1 t.3
 
-pub lose_means : (x : AllAckState) (i : ℕ) → MadeAllAck x → lose_answer (seen x).net i ≡ 0 → Lost (seen x) (seen (lose_on x i)) i
+pub lose_means : (x : AllAckState) (i : ℕ) → MadeAllAck x → lose_answer (seen x).net i ≡ Ok tt → Lost (seen x) (seen (lose_on x i)) i
 lose_means x i g h = record { net = lose_net x.spread i (lost_item x.spread.cards x.spread.wire (spread_work x.spread) i h).2; posters_stay = λ j. refl; sets_stay = λ p. refl }
 
-pub crash_made : (x : AllAckState) (p : ℕ) → MadeAllAck x → crash_answer (seen x).net p ≡ 0 → MadeAllAck (crash_on x p)
+pub crash_made : (x : AllAckState) (p : ℕ) → MadeAllAck x → crash_answer (seen x).net p ≡ Ok tt → MadeAllAck (crash_on x p)
 crash_made x p g h = keeps.crash_made x p g (crash_accepted (seen x).net p h).0
 
-pub crash_means : (x : AllAckState) (p : ℕ) → MadeAllAck x → crash_answer (seen x).net p ≡ 0 → Crashed (seen x) (seen (crash_on x p)) p
+pub crash_means : (x : AllAckState) (p : ℕ) → MadeAllAck x → crash_answer (seen x).net p ≡ Ok tt → Crashed (seen x) (seen (crash_on x p)) p
 crash_means x p g h = record { net = crash_net x.spread p g.whole.below.whole (crash_accepted (seen x).net p h).0; posters_stay = λ j. refl; sets_stay = λ q. refl }
 
-pub suspect_made : (x : AllAckState) (q p : ℕ) → MadeAllAck x → suspect_answer (seen x).net q p ≡ 0 → MadeAllAck (suspect_on x q p)
+pub suspect_made : (x : AllAckState) (q p : ℕ) → MadeAllAck x → suspect_answer (seen x).net q p ≡ Ok tt → MadeAllAck (suspect_on x q p)
 suspect_made x q p g h = let f = suspect_accepted (seen x).net q p h in keeps.suspect_made x q p g f.0 f.1 f.2 f.3
 
-pub suspect_means : (x : AllAckState) (q p : ℕ) → MadeAllAck x → suspect_answer (seen x).net q p ≡ 0 → Suspected (seen x) (seen (suspect_on x q p)) q p
+pub suspect_means : (x : AllAckState) (q p : ℕ) → MadeAllAck x → suspect_answer (seen x).net q p ≡ Ok tt → Suspected (seen x) (seen (suspect_on x q p)) q p
 suspect_means x q p g h =
     let f = suspect_accepted (seen x).net q p h in
     let s = g.whole.below.whole in

@@ -1,5 +1,5 @@
 -- `new` and the calls make boards that hold together.
-use Rattle.std.specs.Prelude.{◌≡◌, ℕ, ◌<◌, Bool, true, false, ◌||◌, List, length, is_some, Some, None, Option, ◌==◌, ◌≢◌, slice_set, refl}
+use Rattle.std.specs.Prelude.{◌≡◌, ℕ, ◌<◌, Bool, true, false, ◌||◌, List, length, is_some, Some, None, Option, ◌==◌, ◌≢◌, slice_set, refl, Ok}
 use Rattle.std.proofs.Common.{sym, ap, subst, ◌∙◌, ⊎_elim, arith, length-set}
 use borrow.Author.Tests.{clash}
 use Rattle.std.specs.List.{slice_get, remove}
@@ -45,7 +45,7 @@ poster_card t m p n j q l h f e =
     (λ s. f j q (sym (cond-false (j == m) (Some p) (poster_in t j) s) ∙ sym (written t m j (Some p) None l) ∙ e))
     (cases_Bool (j == m))
 
-pub post_made : (x : BoardState) (p m : ℕ) → MadeBoard x → post_answer (seen x) p m ≡ 0 → MadeBoard (post_on x p m)
+pub post_made : (x : BoardState) (p m : ℕ) → MadeBoard x → post_answer (seen x) p m ≡ Ok tt → MadeBoard (post_on x p m)
 post_made x p m g h =
     let f = post_accepted (seen x) p m h in
     let c = x.cards in
@@ -97,7 +97,7 @@ hand_out_made x i y g e =
           ∙ regroup (has (set_in x.handed p) m) (brings m p y) (any_of (brings m p) (remove x.wire i)) (ap (λ b. has (set_in x.handed p) m || b) (sym (any_split (brings m p) x.wire i y e)) ∙ g.due p m h v d);
     }
 
-pub carry_made : (x : BoardState) (i : ℕ) → MadeBoard x → carry_answer (seen x).net i ≡ 0 → MadeBoard (carry_on x i)
+pub carry_made : (x : BoardState) (i : ℕ) → MadeBoard x → carry_answer (seen x).net i ≡ Ok tt → MadeBoard (carry_on x i)
 carry_made x i g h =
     let t = carried_item x.cards x.wire (length x.wire) i h in
     rw t.1 (hand_out_made x i t.0 g t.1)
@@ -105,13 +105,13 @@ carry_made x i g h =
 -- A loss, a crash, a suspicion.
 
 -- Every item is the carrier's own, and the carrier is no card: none is lost.
-pub none_lost : (x : BoardState) (i : ℕ) → MadeBoard x → lose_answer (seen x).net i ≢ 0
+pub none_lost : (x : BoardState) (i : ℕ) → MadeBoard x → lose_answer (seen x).net i ≢ Ok tt
 none_lost x i g h =
     let s = carrier_sends x.wire i (All-weaker (Underway x.cards x.posters) (λ y. y.from ≡ 7) (λ y u. u.carrier) x.wire g.items) in
     let d = g.sound.crashed_cards 7 (subst (λ j. crashed_in x.cards j ≡ true) s (lose_accepted (seen x).net i h).1) in
     omega (arith, g.sound.few)
 
-pub crash_made : (x : BoardState) (p : ℕ) → MadeBoard x → crash_answer (seen x).net p ≡ 0 → MadeBoard (crash_on x p)
+pub crash_made : (x : BoardState) (p : ℕ) → MadeBoard x → crash_answer (seen x).net p ≡ Ok tt → MadeBoard (crash_on x p)
 crash_made x p g h =
     let f = crash_accepted (seen x).net p h in
     let c = x.cards in
@@ -133,7 +133,7 @@ crash_made x p g h =
           (or_cases _ _ (g.due q m l v.1 e));
     }
 
-pub suspect_made : (x : BoardState) (q p : ℕ) → MadeBoard x → suspect_answer (seen x).net q p ≡ 0 → MadeBoard (suspect_on x q p)
+pub suspect_made : (x : BoardState) (q p : ℕ) → MadeBoard x → suspect_answer (seen x).net q p ≡ Ok tt → MadeBoard (suspect_on x q p)
 suspect_made x q p g h =
     let f = suspect_accepted (seen x).net q p h in
     record {

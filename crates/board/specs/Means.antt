@@ -1,5 +1,5 @@
 -- Each call, from what it makes of a board to what the interface says of it.
-use Rattle.std.specs.Prelude.{◌≡◌, ℕ, ◌<◌, Bool, true, false, ◌⊎◌, List, [], length, is_some, Some, None, refl}
+use Rattle.std.specs.Prelude.{◌≡◌, ℕ, ◌<◌, Bool, true, false, ◌⊎◌, List, [], length, is_some, Some, None, refl, Ok}
 use Rattle.std.proofs.Common.{sym, ap, subst, ◌∙◌, inr, ⊎_elim, arith}
 use borrow.Author.Tests.{clash}
 use Rattle.std.specs.List.{slice_get, remove}
@@ -33,7 +33,7 @@ same_sets_handed v w e = record { nothing_taken_out = λ p m h. subst (λ f. has
 pub new_means : (n : ℕ) → Started n (seen (new_board n))
 new_means n = record { net = new_net n; nothing_posted = λ m. same_all 32 m None; nothing_handed = λ p. same_all 6 p 0 }
 
-pub post_means : (x : BoardState) (p m : ℕ) → MadeBoard x → post_answer (seen x) p m ≡ 0 → Posted 6 (seen x) (seen (post_on x p m)) p m
+pub post_means : (x : BoardState) (p m : ℕ) → MadeBoard x → post_answer (seen x) p m ≡ Ok tt → Posted 6 (seen x) (seen (post_on x p m)) p m
 post_means x p m g h =
     let f = post_accepted (seen x) p m h in
     let more : List (Item ℕ) = sent x.cards 7 m x.cards.count in
@@ -58,15 +58,15 @@ carried_means x i y g e l =
       };
     }
 
-pub carry_means : (x : BoardState) (i : ℕ) → MadeBoard x → carry_answer (seen x).net i ≡ 0 → Carried (seen x) (seen (carry_on x i))
+pub carry_means : (x : BoardState) (i : ℕ) → MadeBoard x → carry_answer (seen x).net i ≡ Ok tt → Carried (seen x) (seen (carry_on x i))
 carry_means x i g h =
     let t = carried_item x.cards x.wire (length x.wire) i h in
     rw t.1 (carried_means x i t.0 g t.1 t.2)
 
-pub lose_means : (x : BoardState) (i : ℕ) → MadeBoard x → lose_answer (seen x).net i ≡ 0 → Lost (seen x) (seen (lose_on x i)) i
+pub lose_means : (x : BoardState) (i : ℕ) → MadeBoard x → lose_answer (seen x).net i ≡ Ok tt → Lost (seen x) (seen (lose_on x i)) i
 lose_means x i g h = absurd (none_lost x i g h)
 
-pub crash_means : (x : BoardState) (p : ℕ) → MadeBoard x → crash_answer (seen x).net p ≡ 0 → Crashed (seen x) (seen (crash_on x p)) p
+pub crash_means : (x : BoardState) (p : ℕ) → MadeBoard x → crash_answer (seen x).net p ≡ Ok tt → Crashed (seen x) (seen (crash_on x p)) p
 crash_means x p g h =
     record {
       net = net_crashed x.cards p _ _ _ _ g.sound (crash_accepted (seen x).net p h).0 (part_left (λ y. y.from) (elsewhere p) x.wire) (length_left (elsewhere p) x.wire);
@@ -74,7 +74,7 @@ crash_means x p g h =
       sets_stay = λ q. refl;
     }
 
-pub suspect_means : (x : BoardState) (q p : ℕ) → MadeBoard x → suspect_answer (seen x).net q p ≡ 0 → Suspected (seen x) (seen (suspect_on x q p)) q p
+pub suspect_means : (x : BoardState) (q p : ℕ) → MadeBoard x → suspect_answer (seen x).net q p ≡ Ok tt → Suspected (seen x) (seen (suspect_on x q p)) q p
 suspect_means x q p g h =
     let f = suspect_accepted (seen x).net q p h in
     record { net = net_suspected x.cards q p _ _ _ _ g.sound f.0 f.1 (omega arith); posters_stay = λ j. refl; handed_more = same_sets_handed _ _ refl }

@@ -1,5 +1,5 @@
-ghost use Rattle.std.specs.Prelude.{◌≡◌, [], if◌then◌else◌, Decides, nat_eq};
-ghost use Rattle.parts.specs.Refusals.{answered, crash_answer, suspect_answer};
+ghost use Rattle.std.specs.Prelude.{◌≡◌, [], is_ok, if◌then◌else◌, Decides};
+ghost use Rattle.parts.specs.Refusals.{crash_answer, suspect_answer};
 ghost use Rattle.cards.specs.Cards.{cards_of, crashed_in, suspects_in, new_cards, with_crash, with_suspicion, net_of, AllSuspected};
 
 use super::Cards;
@@ -40,8 +40,8 @@ impl Cards {
     }
 
     pub fn crash(&mut self, card: usize) -> Result<(), Refusal>
-        ensures answer { answered result ≡ crash_answer (net_of (cards_of self.old) [] 0) card }
-        ensures after { cards_of self.new ≡ (if nat_eq (answered result) 0 then with_crash (cards_of self.old) card else cards_of self.old) }
+        ensures answer { result ≡ crash_answer (net_of (cards_of self.old) [] 0) card }
+        ensures after { cards_of self.new ≡ (if is_ok result then with_crash (cards_of self.old) card else cards_of self.old) }
     {
         if card >= self.count() {
             return Err(Refusal::NoSuchCard);
@@ -54,8 +54,8 @@ impl Cards {
     }
 
     pub fn suspect(&mut self, by: usize, card: usize) -> Result<(), Refusal>
-        ensures answer { answered result ≡ suspect_answer (net_of (cards_of self.old) [] 0) by card }
-        ensures after { cards_of self.new ≡ (if nat_eq (answered result) 0 then with_suspicion (cards_of self.old) by card else cards_of self.old) }
+        ensures answer { result ≡ suspect_answer (net_of (cards_of self.old) [] 0) by card }
+        ensures after { cards_of self.new ≡ (if is_ok result then with_suspicion (cards_of self.old) by card else cards_of self.old) }
     {
         if by >= self.count() || card >= self.count() {
             return Err(Refusal::NoSuchCard);

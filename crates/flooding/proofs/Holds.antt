@@ -1,5 +1,5 @@
 -- That `new`, a loss and a crash make floodings which hold together as a whole, and what a loss and a crash mean of such a one.
-use Rattle.std.proofs.Common.{◌≡◌, ℕ, suc, true, false, cond, not, ◌&&◌, ◌||◌, eqb, ltb, is_some, None, sym, refl, ap, ◌∙◌, subst, inl, inr, ⊎_elim, arith}
+use Rattle.std.proofs.Common.{◌≡◌, ℕ, suc, true, false, cond, not, ◌&&◌, ◌||◌, eqb, ltb, is_some, None, sym, refl, ap, ◌∙◌, subst, inl, inr, ⊎_elim, arith, Ok}
 use borrow.Author.Tests.{clash}
 use Rattle.std.proofs.lemmas.Bool.{and_left, and_right, or_parts, or_cases, eqb-false, ne_eqb, not-true, not_from_false, both_ways}
 use Rattle.notes.specs.Sets.{has}
@@ -61,7 +61,7 @@ new_made n =
 
 -- A loss: what is lost was sent by a crashed card.
 
-pub lose_made : (x : FloodingState) (i : ℕ) → MadeFlooding x → lose_answer (seen x).net i ≡ 0 → MadeFlooding (lose_on x i)
+pub lose_made : (x : FloodingState) (i : ℕ) → MadeFlooding x → lose_answer (seen x).net i ≡ Ok tt → MadeFlooding (lose_on x i)
 lose_made x i g h =
     let y = lost_item x.cards x.wire (flooding_work x) i h in
     record {
@@ -102,7 +102,7 @@ lose_made x i g h =
 
 -- A crash.
 
-pub crash_made : (x : FloodingState) (p : ℕ) → MadeFlooding x → crash_answer (seen x).net p ≡ 0 → MadeFlooding (crash_on x p)
+pub crash_made : (x : FloodingState) (p : ℕ) → MadeFlooding x → crash_answer (seen x).net p ≡ Ok tt → MadeFlooding (crash_on x p)
 crash_made x p g h =
     let f = crash_accepted (seen x).net p h in
     let c = x.cards in
@@ -149,8 +149,8 @@ crash_made x p g h =
 
 -- What they mean.
 
-pub lose_means : (x : FloodingState) (i : ℕ) → MadeFlooding x → lose_answer (seen x).net i ≡ 0 → Lost (seen x) (seen (lose_on x i)) i
+pub lose_means : (x : FloodingState) (i : ℕ) → MadeFlooding x → lose_answer (seen x).net i ≡ Ok tt → Lost (seen x) (seen (lose_on x i)) i
 lose_means x i g h = loss_is_lost x i h
 
-pub crash_means : (x : FloodingState) (p : ℕ) → MadeFlooding x → crash_answer (seen x).net p ≡ 0 → Crashed (seen x) (seen (crash_on x p)) p
+pub crash_means : (x : FloodingState) (p : ℕ) → MadeFlooding x → crash_answer (seen x).net p ≡ Ok tt → Crashed (seen x) (seen (crash_on x p)) p
 crash_means x p g h = crash_is_crashed x p g.sound h

@@ -1,9 +1,10 @@
 -- The rounds that are left, as a seat is changed.
-use Rattle.std.proofs.Common.{◌≡◌, ℕ, zero, suc, ◌+◌, ◌<◌, ◌≤◌, cond, eqb, List, [], ◌∷◌, get_or, set, Some, Option, sym, refl, ◌∙◌, subst, arith}
+use Rattle.std.proofs.Common.{◌≡◌, ℕ, zero, suc, ◌+◌, ◌<◌, ◌≤◌, cond, List, [], ◌∷◌, get_or, set, Some, Option, Result, is_ok, sym, refl, ◌∙◌, subst, arith, Ok}
 use Rattle.std.proofs.lemmas.Bool.Decides.{nat_tests}
-use Rattle.std.proofs.lemmas.Bool.{cond_both, eqb-true}
+use Rattle.std.proofs.lemmas.Bool.{cond_both}
+use Rattle.parts.specs.declared.refusal.Refusal.{Refusal}
 use Rattle.parts.specs.Refusals.{propose_answer}
-use Rattle.parts.proofs.Accepted.{propose_accepted}
+use Rattle.parts.proofs.Accepted.{propose_accepted, is_accepted}
 use Rattle.cards.specs.Cards.{CardState}
 use Rattle.tables.specs.Tables.{ballots_of, new_ballots, with_ballot, proposals_view, free_ballots}
 use Rattle.tables.specs.declared.ballots.Ballots.{Ballots}
@@ -40,15 +41,15 @@ pub new_free : free_ballots new_ballots ≡ 192
 new_free = refl
 
 -- A proposal leaves one less to come; any call leaves no more.
-pub free_less : (c : CardState) (t : Ballots) (k p s : ℕ) → c.count ≤ 6 → propose_answer (proposals_view c (ballots_of t)) k p s ≡ 0 → free_ballots (with_ballot (ballots_of t) k p (Some s)) + 1 ≡ free_ballots (ballots_of t)
+pub free_less : (c : CardState) (t : Ballots) (k p s : ℕ) → c.count ≤ 6 → propose_answer (proposals_view c (ballots_of t)) k p s ≡ Ok tt → free_ballots (with_ballot (ballots_of t) k p (Some s)) + 1 ≡ free_ballots (ballots_of t)
 free_less c t k p s few a =
     let f = propose_accepted (proposals_view c (ballots_of t)) k p s a in
     one_less_ballot (ballots_of t) k p s (omega (arith, ballots_length t, f.3)) (omega (arith, ballots_row t k f.3, f.0)) f.2
 
-pub free_after : (c : CardState) (t : Ballots) (k p s n : ℕ) (z : List (List (Option ℕ))) → c.count ≤ 6 → n ≡ propose_answer (proposals_view c (ballots_of t)) k p s
-    → z ≡ cond (eqb n 0) (with_ballot (ballots_of t) k p (Some s)) (ballots_of t) → free_ballots z ≤ free_ballots (ballots_of t)
-free_after c t k p s n z few a e =
+pub free_after : (c : CardState) (t : Ballots) (k p s : ℕ) (a : Result Unit Refusal) (z : List (List (Option ℕ))) → c.count ≤ 6 → a ≡ propose_answer (proposals_view c (ballots_of t)) k p s
+    → z ≡ cond (is_ok a) (with_ballot (ballots_of t) k p (Some s)) (ballots_of t) → free_ballots z ≤ free_ballots (ballots_of t)
+free_after c t k p s a z few h e =
     subst (λ y. free_ballots y ≤ free_ballots (ballots_of t)) (sym e)
-    (cond_both (eqb n 0) (with_ballot (ballots_of t) k p (Some s)) (ballots_of t) (λ y. free_ballots y ≤ free_ballots (ballots_of t))
-    (λ b. omega (arith, free_less c t k p s few (sym a ∙ eqb-true n 0 b)))
+    (cond_both (is_ok a) (with_ballot (ballots_of t) k p (Some s)) (ballots_of t) (λ y. free_ballots y ≤ free_ballots (ballots_of t))
+    (λ b. omega (arith, free_less c t k p s few (sym h ∙ is_accepted a b)))
     (λ _. omega arith))

@@ -1,5 +1,5 @@
 -- `new` and the calls make floodings that hold together.
-use Rattle.std.specs.Prelude.{◌≡◌, ℕ, zero, suc, ◌^◌, ◌<◌, Bool, true, false, cond, not, ◌&&◌, ◌||◌, ltb, [], ◌∷◌, ◌++◌, replicate, is_some, Some, None, ◌==◌, bit_or, nat_eq, nat_lt, refl}
+use Rattle.std.specs.Prelude.{◌≡◌, ℕ, zero, suc, ◌^◌, ◌<◌, Bool, true, false, cond, not, ◌&&◌, ◌||◌, ltb, [], ◌∷◌, ◌++◌, replicate, is_some, Some, None, ◌==◌, bit_or, nat_eq, nat_lt, refl, Ok}
 use Rattle.std.proofs.Common.{sym, ap, subst, ◌∙◌, inl, inr, ⊎_elim, arith}
 use borrow.Author.Tests.{clash}
 use Rattle.std.proofs.lemmas.Nat.{or_lt}
@@ -101,7 +101,7 @@ settle_made x k q g hk u others =
           (here_or_elsewhere k q j p);
     }
 
-pub propose_made : (x : FloodingState) (k p s : ℕ) → SettledFlooding x → s < 2 ^ 32 → propose_answer (seen x) k p s ≡ 0 → SettledFlooding (propose_on x k p s)
+pub propose_made : (x : FloodingState) (k p s : ℕ) → SettledFlooding x → s < 2 ^ 32 → propose_answer (seen x) k p s ≡ Ok tt → SettledFlooding (propose_on x k p s)
 propose_made x k p s m small h =
     let g = m.whole in
     let f = propose_accepted (seen x) k p s h in
@@ -210,13 +210,13 @@ module _ (x : FloodingState) (i : ℕ) (y : Item LoadState) (m : SettledFlooding
       (λ z. heard_made u.0 u.1 (eqb-true _ _ z))
       (λ z. left (λ t up uq h. absurd (eqb-false s.round y.load.round z (omega (arith, ltb-false _ _ l, stage t u.0)))))))
 
-pub carry_made : (x : FloodingState) (i : ℕ) → SettledFlooding x → carry_answer (seen x).net i ≡ 0 → SettledFlooding (carry_on x i)
+pub carry_made : (x : FloodingState) (i : ℕ) → SettledFlooding x → carry_answer (seen x).net i ≡ Ok tt → SettledFlooding (carry_on x i)
 carry_made x i m h =
     let y = carried_item x.cards x.wire (flooding_work x) i h in
     subst (λ o. SettledFlooding (arrive_by (lose_on x i) o)) (sym y.1) (arrive_made x i y.0 m y.1)
 
 -- A loss: what is lost was sent by a crashed card.
-pub lose_made : (x : FloodingState) (i : ℕ) → SettledFlooding x → lose_answer (seen x).net i ≡ 0 → SettledFlooding (lose_on x i)
+pub lose_made : (x : FloodingState) (i : ℕ) → SettledFlooding x → lose_answer (seen x).net i ≡ Ok tt → SettledFlooding (lose_on x i)
 lose_made x i m h =
     let y = lost_item x.cards x.wire (flooding_work x) i h in
     left x i y.0 m y.1 (λ t up uq l. absurd (both_ways (crashed_in x.cards y.0.from) up y.3))
@@ -227,7 +227,7 @@ pub same_counted : (c e : CardState) (q : ℕ) (s : SeatState) (m : ℕ) → ((y
 same_counted c e q s zero h = refl
 same_counted c e q s (suc m) h = cc (same_counted c e q s m h, h m)
 
-pub crash_made : (x : FloodingState) (p : ℕ) → SettledFlooding x → crash_answer (seen x).net p ≡ 0 → SettledFlooding (crash_on x p)
+pub crash_made : (x : FloodingState) (p : ℕ) → SettledFlooding x → crash_answer (seen x).net p ≡ Ok tt → SettledFlooding (crash_on x p)
 crash_made x p m h =
     let g = m.whole in
     let f = crash_accepted (seen x).net p h in
@@ -271,7 +271,7 @@ crash_made x p m h =
           ∙ m.settled k q l (before q u).1;
     }
 
-pub suspect_made : (x : FloodingState) (q p : ℕ) → SettledFlooding x → suspect_answer (seen x).net q p ≡ 0 → SettledFlooding (suspect_on x q p)
+pub suspect_made : (x : FloodingState) (q p : ℕ) → SettledFlooding x → suspect_answer (seen x).net q p ≡ Ok tt → SettledFlooding (suspect_on x q p)
 suspect_made x q p m h =
     let g = m.whole in
     let f = suspect_accepted (seen x).net q p h in

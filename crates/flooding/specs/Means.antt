@@ -1,5 +1,5 @@
 -- What `new` and each call make of a flooding is what the interface says.
-use Rattle.std.specs.Prelude.{◌≡◌, ℕ, zero, suc, ◌+◌, ◌-◌, ◌*◌, ◌^◌, ◌<◌, ◌≤◌, false, cond, not, ◌&&◌, ltb, length, Some, None, nat_lt, refl}
+use Rattle.std.specs.Prelude.{◌≡◌, ℕ, zero, suc, ◌+◌, ◌-◌, ◌*◌, ◌^◌, ◌<◌, ◌≤◌, false, cond, not, ◌&&◌, ltb, length, Some, None, nat_lt, refl, Ok}
 use Rattle.std.proofs.Common.{sym, ap, subst, ◌∙◌, ⊎_elim, mul-le-mul, arith}
 use Rattle.std.specs.List.{slice_get}
 use Rattle.std.proofs.lemmas.List.Edits.{length-remove}
@@ -61,7 +61,7 @@ thirty n l =
     let square : (n - 1) * (n - 1) ≤ 5 * 5 = mul-le-mul five five in
     omega arith
 
-pub propose_means : (x : FloodingState) (k p s : ℕ) → SettledFlooding x → s < 2 ^ 32 → propose_answer (seen x) k p s ≡ 0 → Proposed 30 (seen x) (seen (propose_on x k p s)) k p s
+pub propose_means : (x : FloodingState) (k p s : ℕ) → SettledFlooding x → s < 2 ^ 32 → propose_answer (seen x) k p s ≡ Ok tt → Proposed 30 (seen x) (seen (propose_on x k p s)) k p s
 propose_means x k p s g fits h =
     let f = propose_accepted (seen x) k p s h in
     let n : ℕ = x.cards.count in
@@ -102,12 +102,12 @@ arrived_means x i y g e l =
       decided_more = decides_more x after y.to u.up m.decided;
     }
 
-pub carry_means : (x : FloodingState) (i : ℕ) → SettledFlooding x → carry_answer (seen x).net i ≡ 0 → Carried (seen x) (seen (carry_on x i))
+pub carry_means : (x : FloodingState) (i : ℕ) → SettledFlooding x → carry_answer (seen x).net i ≡ Ok tt → Carried (seen x) (seen (carry_on x i))
 carry_means x i g h =
     let t = carried_item x.cards x.wire (flooding_work x) i h in
     rw t.1 (arrived_means x i t.0 g t.1 t.2)
 
-pub loss_is_lost : (x : FloodingState) (i : ℕ) → lose_answer (seen x).net i ≡ 0 → Lost (seen x) (seen (lose_on x i)) i
+pub loss_is_lost : (x : FloodingState) (i : ℕ) → lose_answer (seen x).net i ≡ Ok tt → Lost (seen x) (seen (lose_on x i)) i
 loss_is_lost x i h =
     let y = lost_item x.cards x.wire (flooding_work x) i h in
     record {
@@ -116,7 +116,7 @@ loss_is_lost x i h =
       decisions_stay = λ k p. refl;
     }
 
-pub lose_means : (x : FloodingState) (i : ℕ) → SettledFlooding x → lose_answer (seen x).net i ≡ 0 → Lost (seen x) (seen (lose_on x i)) i
+pub lose_means : (x : FloodingState) (i : ℕ) → SettledFlooding x → lose_answer (seen x).net i ≡ Ok tt → Lost (seen x) (seen (lose_on x i)) i
 lose_means x i g h = loss_is_lost x i h
 
 -- A crashed card sends no more.
@@ -130,7 +130,7 @@ less_to_send c p q s g h =
     omega arith)
     (cases_Bool (crashed_in (with_crash c p) q))
 
-pub crash_is_crashed : (x : FloodingState) (p : ℕ) → SoundCards x.cards → crash_answer (seen x).net p ≡ 0 → Crashed (seen x) (seen (crash_on x p)) p
+pub crash_is_crashed : (x : FloodingState) (p : ℕ) → SoundCards x.cards → crash_answer (seen x).net p ≡ Ok tt → Crashed (seen x) (seen (crash_on x p)) p
 crash_is_crashed x p g h =
     let c = x.cards in
     let f = crash_accepted (seen x).net p h in
@@ -142,10 +142,10 @@ crash_is_crashed x p g h =
       decisions_stay = λ k q. refl;
     }
 
-pub crash_means : (x : FloodingState) (p : ℕ) → SettledFlooding x → crash_answer (seen x).net p ≡ 0 → Crashed (seen x) (seen (crash_on x p)) p
+pub crash_means : (x : FloodingState) (p : ℕ) → SettledFlooding x → crash_answer (seen x).net p ≡ Ok tt → Crashed (seen x) (seen (crash_on x p)) p
 crash_means x p g h = crash_is_crashed x p g.whole.sound h
 
-pub suspect_means : (x : FloodingState) (q p : ℕ) → SettledFlooding x → suspect_answer (seen x).net q p ≡ 0 → Suspected (seen x) (seen (suspect_on x q p)) q p
+pub suspect_means : (x : FloodingState) (q p : ℕ) → SettledFlooding x → suspect_answer (seen x).net q p ≡ Ok tt → Suspected (seen x) (seen (suspect_on x q p)) q p
 suspect_means x q p g h =
     let f = suspect_accepted (seen x).net q p h in
     let placed : Placed (doubt_on x q p) q = record { seats_shaped = g.whole.seats_shaped; decisions_shaped = g.whole.decisions_shaped; few = g.whole.sound.few; card = f.0; up = f.2 } in

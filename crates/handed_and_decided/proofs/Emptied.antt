@@ -1,19 +1,21 @@
 -- What carrying all items comes to.
-use Rattle.std.proofs.Common.{◌≡◌, ℕ, zero, suc, ◌-◌, ◌<◌, ◌≤◌, cond, eqb, ltb, List, [], length, sym, refl, ap, ◌∙◌, subst, ⊎_elim, arith}
+use Rattle.std.proofs.Common.{◌≡◌, ℕ, zero, suc, ◌-◌, ◌<◌, ◌≤◌, cond, ltb, List, [], length, sym, refl, ap, ◌∙◌, subst, ⊎_elim, arith, Ok, Err, Result, is_ok}
 use Rattle.std.proofs.lemmas.List.{nil_from_length}
 use Rattle.std.proofs.lemmas.Bool.{cases_Bool, cond-true, cond-false, lt-ltb, le-ltb, ltb-false}
 use Rattle.parts.specs.Views.{Net}
+use Rattle.parts.specs.declared.refusal.Refusal.{Refusal}
+use Rattle.parts.specs.declared.refusal.Refusal.TheVariants.{NoSuchItem}
 use Rattle.parts.specs.Refusals.{carry_answer}
 use Rattle.handed_and_decided.specs.Carrying.{carried_all}
 
 -- One turn of the loop, and its end.
 module _ {S : Type 0} (wire : S → List ℕ) (carrying : S → ℕ → S) where
-  pub carried_first : (n : ℕ) (s t : S) → n ≡ cond (ltb 0 (length (wire s))) 0 6 → t ≡ cond (eqb n 0) (carrying s 0) s → (k : ℕ) → 0 < k → 0 < length (wire s) → carried_all wire carrying (k - 1) t ≡ carried_all wire carrying k s
-  carried_first n s t a e zero h l = absurd (omega arith)
-  carried_first n s t a e (suc k) h l =
+  pub carried_first : (a : Result Unit Refusal) (s t : S) → a ≡ cond (ltb 0 (length (wire s))) (Ok tt) (Err NoSuchItem) → t ≡ cond (is_ok a) (carrying s 0) s → (k : ℕ) → 0 < k → 0 < length (wire s) → carried_all wire carrying (k - 1) t ≡ carried_all wire carrying k s
+  carried_first a s t h e zero p l = absurd (omega arith)
+  carried_first a s t h e (suc k) p l =
       let x = lt-ltb 0 (length (wire s)) l in
       let m : suc k - 1 ≡ k = omega arith in
-      let q : t ≡ carrying s 0 = e ∙ ap (λ j. cond (eqb j 0) (carrying s 0) s) (a ∙ cond-true _ _ _ x) in
+      let q : t ≡ carrying s 0 = e ∙ ap (λ j. cond (is_ok j) (carrying s 0) s) (h ∙ cond-true _ _ _ x) in
       ap (λ j. carried_all wire carrying j t) m ∙ ap (carried_all wire carrying k) q ∙ sym (cond-true (ltb 0 (length (wire s))) (carried_all wire carrying k (carrying s 0)) s x)
 
   pub no_item_left : (k : ℕ) (s : S) → length (wire s) ≤ 0 → carried_all wire carrying k s ≡ s
@@ -26,8 +28,8 @@ module _ {S : Type 0} (wire : S → List ℕ) (carrying : S → ℕ → S) where
 
 -- What holds of the carries of any broadcast and any consensus.
 module _ {S : Type 0} (net : S → Net) (made : S → Type 0) (carrying : S → ℕ → S)
-    (keeps : (s : S) → made s → carry_answer (net s) 0 ≡ 0 → made (carrying s 0))
-    (falls : (s : S) → made s → carry_answer (net s) 0 ≡ 0 → (net (carrying s 0)).work < (net s).work)
+    (keeps : (s : S) → made s → carry_answer (net s) 0 ≡ Ok tt → made (carrying s 0))
+    (falls : (s : S) → made s → carry_answer (net s) 0 ≡ Ok tt → (net (carrying s 0)).work < (net s).work)
     (covers : (s : S) → made s → length (net s).wire ≤ (net s).work) where
   all_made : (k : ℕ) (s : S) → made s → made (carried_all (λ s. (net s).wire) carrying k s)
   all_made zero s g = g

@@ -1,7 +1,7 @@
-ghost use Rattle.std.specs.Prelude.{◌≡◌, IfOk, Some, None};
+ghost use Rattle.std.specs.Prelude.{◌≡◌, Err, IfOk, Some, None};
 ghost use Rattle.std.specs.Option.{option_map};
 ghost use Rattle.notes.specs.Models.{bits};
-ghost use Rattle.parts.specs.Refusals.{answered};
+ghost use Rattle.parts.specs.declared.refusal.Refusal.TheVariants.{SenderNotCrashed};
 
 use board::state::Board;
 use notes::set::NoteSet;
@@ -23,7 +23,7 @@ pub fn one_carried_item(heap: Global) -> Result<(NoteSet, NoteSet), AllocError>
 
 // An item of a crashed poster is the carrier's, and cannot be lost.
 pub fn posted_item_is_not_lost(heap: Global) -> Result<Result<(), Refusal>, AllocError>
-    ensures { IfOk result (λ a. answered a ≡ 7) }
+    ensures { IfOk result (λ a. a ≡ Err SenderNotCrashed) }
 {
     let mut board: Board = Board::new(heap, 2)?;
     let _ = board.post(0, 3);

@@ -1,8 +1,9 @@
 -- What lists of calls make of one layer and of two.
-use Rattle.std.proofs.Common.{◌≡◌, ℕ, Bool, true, false, cond, eqb, List, [], ◌∷◌, ◌++◌, sym, refl, ap, ◌∙◌}
+use Rattle.std.proofs.Common.{◌≡◌, ℕ, Bool, true, false, cond, Ok, is_ok, List, [], ◌∷◌, ◌++◌, sym, refl, ap, ◌∙◌}
 use Rattle.std.proofs.lemmas.List.{append-nil, append_assoc}
-use Rattle.std.proofs.lemmas.Bool.{cond_both, eqb-true}
+use Rattle.std.proofs.lemmas.Bool.{cond_both}
 use Rattle.parts.specs.Refusals.{post_answer}
+use Rattle.parts.proofs.Accepted.{is_accepted}
 use Rattle.inturn.specs.declared.post.Post.{Post}
 use Rattle.inturn.specs.Turns.{post_of, written}
 use Rattle.inturn.specs.Layers.{Layered, layered}
@@ -12,7 +13,7 @@ use Rattle.inturn.specs.Means.{Means, small_notes, MadeOver, table_grows, means_
 
 -- Each call keeps what is made.
 module _ {S : Type 0} (b : Behaviour S) (made : S → Type 0) (bound : ℕ) (means : Means b made bound) where
-  accepted_made : (s : S) (c : Call) → made s → answer b s c ≡ 0 → made (accepted b s c)
+  accepted_made : (s : S) (c : Call) → made s → answer b s c ≡ Ok tt → made (accepted b s c)
   accepted_made s (post p m) = means.post_made s p m
   accepted_made s (carry i) = means.carry_made s i
   accepted_made s (lose i) = means.lose_made s i
@@ -20,7 +21,7 @@ module _ {S : Type 0} (b : Behaviour S) (made : S → Type 0) (bound : ℕ) (mea
   accepted_made s (suspect q p) = means.suspect_made s q p
 
   next_made : (s : S) (c : Call) → made s → made (next b s c)
-  next_made s c g = cond_both (eqb (answer b s c) 0) (accepted b s c) s made (λ t. accepted_made s c g (eqb-true (answer b s c) 0 t)) (λ _. g)
+  next_made s c g = cond_both (is_ok (answer b s c)) (accepted b s c) s made (λ t. accepted_made s c g (is_accepted (answer b s c) t)) (λ _. g)
 
   after_made : (s : S) (calls : List Call) → made s → made (after b s calls)
   after_made s [] g = g
@@ -71,7 +72,7 @@ module _ {S : Type 0} (b : Behaviour S) (made : S → Type 0) (bound : ℕ) (mea
 
   next_posts : (s : Layered S) (c : Call) → Made s → (next (in_turn_over b) s c).posts ≡ s.posts ++ posts_in b s.below c
   next_posts s (post p m) g =
-      post_joins (eqb (post_answer (b.view s.below) p m) 0) s (b.posting s.below p m) (written s.posts p m) (post_of p m) (λ t. table_grows b made bound means s p m g (eqb-true _ 0 t))
+      post_joins (is_ok (post_answer (b.view s.below) p m)) s (b.posting s.below p m) (written s.posts p m) (post_of p m) (λ t. table_grows b made bound means s p m g (is_accepted _ t))
   next_posts s (carry i) g = posts_stay _ s (b.carrying s.below i)
   next_posts s (lose i) g = posts_stay _ s (b.losing s.below i)
   next_posts s (crash p) g = posts_stay _ s (b.crashing s.below p)

@@ -1,6 +1,7 @@
 -- Lists of calls on a broadcast, and what comes of them.
-use Rattle.std.specs.Prelude.{◌≡◌, ℕ, cond, List, [], ◌∷◌, ◌++◌, ◌==◌}
+use Rattle.std.specs.Prelude.{◌≡◌, ℕ, cond, List, [], ◌∷◌, ◌++◌, Result, is_ok}
 use Rattle.parts.specs.Views.{BroadcastView}
+use Rattle.parts.specs.declared.refusal.Refusal.{Refusal}
 use Rattle.parts.specs.Refusals.{post_answer, carry_answer, lose_answer, crash_answer, suspect_answer}
 use Rattle.parts.specs.Shown.{shown}
 use Rattle.parts.specs.declared.broadcast.Broadcast.{Ghosts as Broadcasts}
@@ -44,8 +45,8 @@ pub data Call : Type 0 where
   suspect : ℕ → ℕ → Call
 
 module _ {S : Type 0} (b : Behaviour S) where
-  -- The number that a call answers: 0 where it is accepted.
-  abbrev pub answer : S → Call → ℕ
+  -- What a call answers.
+  abbrev pub answer : S → Call → Result Unit Refusal
   answer s (post p m) = post_answer (b.view s) p m
   answer s (carry i) = carry_answer (b.view s).net i
   answer s (lose i) = lose_answer (b.view s).net i
@@ -62,13 +63,13 @@ module _ {S : Type 0} (b : Behaviour S) where
 
   -- A refused call changes nothing.
   abbrev pub next : S → Call → S
-  next s c = cond (answer s c == 0) (accepted s c) s
+  next s c = cond (is_ok (answer s c)) (accepted s c) s
 
   abbrev pub after : S → List Call → S
   after s [] = s
   after s (c ∷ cs) = after (next s c) cs
 
-  abbrev pub answers : S → List Call → List ℕ
+  abbrev pub answers : S → List Call → List (Result Unit Refusal)
   answers s [] = []
   answers s (c ∷ cs) = answer s c ∷ answers (next s c) cs
 
@@ -76,12 +77,12 @@ module _ {S : Type 0} (b : Behaviour S) where
   abbrev pub reached : ℕ → List Call → S
   reached n calls = after (b.start n) calls
 
-  abbrev pub told : ℕ → List Call → List ℕ
+  abbrev pub told : ℕ → List Call → List (Result Unit Refusal)
   told n calls = answers (b.start n) calls
 
   -- The accepted posts of the calls, in their order.
   abbrev pub posts_in : S → Call → List Post
-  posts_in s (post p m) = cond (post_answer (b.view s) p m == 0) (post_of p m ∷ []) []
+  posts_in s (post p m) = cond (is_ok (post_answer (b.view s) p m)) (post_of p m ∷ []) []
   posts_in s (carry i) = []
   posts_in s (lose i) = []
   posts_in s (crash p) = []

@@ -1,5 +1,5 @@
 -- From what the broadcast below means to what the layer means.
-use Rattle.std.proofs.Common.{◌≡◌, ℕ, ◌<◌, true, false, List, [], ◌∷◌, ◌++◌, length, is_some, Some, sym, refl, ap, ◌∙◌, subst, ⊎_elim, arith}
+use Rattle.std.proofs.Common.{◌≡◌, ℕ, ◌<◌, true, false, List, [], ◌∷◌, ◌++◌, length, is_some, Some, sym, refl, ap, ◌∙◌, subst, ⊎_elim, arith, Ok}
 use Rattle.std.proofs.lemmas.Bool.{cases_Bool, cases_eq, both_ways}
 use Rattle.notes.specs.Sets.{has}
 use Rattle.parts.specs.Views.{BroadcastView}
@@ -101,7 +101,7 @@ module _ {S : Type 0} (b : Behaviour S) (made : S → Type 0) (bound : ℕ) (mea
   abbrev pub MadeOver : Layered S → Type 0
   MadeOver = MadeInTurn made (λ s. (b.view s).poster)
 
-  pub table_grows : (s : Layered S) (p m : ℕ) → MadeOver s → post_answer (b.view s.below) p m ≡ 0 → written s.posts p m ≡ s.posts ++ (post_of p m ∷ [])
+  pub table_grows : (s : Layered S) (p m : ℕ) → MadeOver s → post_answer (b.view s.below) p m ≡ Ok tt → written s.posts p m ≡ s.posts ++ (post_of p m ∷ [])
   table_grows s p m g h =
       let t = post_accepted (b.view s.below) p m h in
       room_for_more s.posts p m (b.view s.below).poster g.1 t.3 (b.view (b.posting s.below p m)).poster (means.post_means s.below p m g.0 h).post_stands

@@ -1,5 +1,5 @@
 -- A new carrier is consistent, and each call keeps it so.
-use Rattle.std.proofs.Common.{◌≡◌, ℕ, suc, ◌+◌, ◌*◌, ◌<◌, ◌≤◌, false, ◌&&◌, ◌||◌, eqb, ◌⊎◌, List, is_some, Some, None, Option, sym, refl, ap, ◌∙◌, subst, inl, inr, mul-le-mul_right, suc-mul, add-mul, arith}
+use Rattle.std.proofs.Common.{◌≡◌, ℕ, suc, ◌+◌, ◌*◌, ◌<◌, ◌≤◌, false, ◌&&◌, ◌||◌, eqb, ◌⊎◌, List, is_some, Some, None, Option, sym, refl, ap, ◌∙◌, subst, inl, inr, mul-le-mul_right, suc-mul, add-mul, arith, Ok}
 use Rattle.std.proofs.lemmas.Bool.{cases_eq, eq-eqb, ne_eqb, and_from, and_left, and_right, cond-true, cond-false}
 use Rattle.parts.specs.Views.{Net, BroadcastView, ConsensusView, Runs}
 use Rattle.parts.specs.Nets.{SameCards, NetCrashed, NetSuspected}
@@ -81,7 +81,7 @@ pub posts_stay : (v w : BroadcastView) → PostersStay v w → posts v ≤ posts
 unfolding posts
 posts_stay v w s = sum_le (λ m. one_if (v.poster m)) (λ m. one_if (w.poster m)) 32 (λ m l. omega (arith, ap one_if (s m)))
 
-posts_more : (B : ℕ) (v w : BroadcastView) (p m : ℕ) → post_answer v p m ≡ 0 → broadcast.Posted B v w p m → posts v + 1 ≤ posts w
+posts_more : (B : ℕ) (v w : BroadcastView) (p m : ℕ) → post_answer v p m ≡ Ok tt → broadcast.Posted B v w p m → posts v + 1 ≤ posts w
 unfolding posts
 posts_more B v w p m e P =
     let a = post_accepted v p m e in
@@ -154,7 +154,7 @@ some_inj : (x y : ℕ) → Some x ≡ Some y → x ≡ y
 some_inj x y e = cc
 
 module _ {B C book : ℕ} {batch : ℕ → List ℕ} (b : BroadcastView) (c c' : ConsensusView) (o o' : Ledger) (I : Consistent B C book batch b c o) where
-  keep_propose : (p s : ℕ) → Waiting b o p s → propose_answer c (o.instance p) p s ≡ 0 → consensus.Proposed C c c' (o.instance p) p s → Counted o o'
+  keep_propose : (p s : ℕ) → Waiting b o p s → propose_answer c (o.instance p) p s ≡ Ok tt → consensus.Proposed C c c' (o.instance p) p s → Counted o o'
       → Consistent B C book batch b c' o'
   keep_propose p s W ok P t = record {
     net = same_same b.net b.net c.net c'.net (net_refl b.net) P.same_cards I.net;

@@ -1,6 +1,6 @@
 -- The calls on a carrier, as relations between what stood before and what stands after. What a call may change of the broadcast and
 -- of the consensus is what the two interfaces mean by it; nothing more is known of them.
-use Rattle.std.specs.Prelude.{◌≡◌, ℕ, suc, ◌+◌, ◌<◌, false, List, [], ◌++◌, Some, ◌≢◌}
+use Rattle.std.specs.Prelude.{◌≡◌, ℕ, suc, ◌+◌, ◌<◌, false, List, [], ◌++◌, Some, ◌≢◌, Ok}
 use Rattle.parts.specs.Views.{BroadcastView, ConsensusView, Runs}
 use Rattle.parts.specs.Refusals.{post_answer, propose_answer}
 use Rattle.parts.specs.Broadcasting as broadcast
@@ -31,14 +31,14 @@ pub record Taken (batch : ℕ → List ℕ) (o o' : Ledger) (p s : ℕ) : Type 0
 -- One accepted call on a carrier with so many notes in its book. B and C are the bounds of broadcast and consensus.
 pub data Step (B C book : ℕ) (batch : ℕ → List ℕ) (b : BroadcastView) (c : ConsensusView) (o : Ledger)
     : BroadcastView → ConsensusView → Ledger → Type 0 where
-  post : {b' : BroadcastView} (p m : ℕ) → m < book → post_answer b p m ≡ 0 → broadcast.Posted B b b' p m → Step B C book batch b c o b' c o
+  post : {b' : BroadcastView} (p m : ℕ) → m < book → post_answer b p m ≡ Ok tt → broadcast.Posted B b b' p m → Step B C book batch b c o b' c o
   carry_broadcast : {b' : BroadcastView} {o' : Ledger} → broadcast.Carried b b' → Counted o o' → Step B C book batch b c o b' c o'
   carry_consensus : {c' : ConsensusView} {o' : Ledger} → consensus.Carried c c' → Counted o o' → Step B C book batch b c o b c' o'
   lose_broadcast : {b' : BroadcastView} {o' : Ledger} (i : ℕ) → broadcast.Lost b b' i → Counted o o' → Step B C book batch b c o b' c o'
   lose_consensus : {c' : ConsensusView} {o' : Ledger} (i : ℕ) → consensus.Lost c c' i → Counted o o' → Step B C book batch b c o b c' o'
   crash : {b' : BroadcastView} {c' : ConsensusView} (p : ℕ) → broadcast.Crashed b b' p → consensus.Crashed c c' p → Step B C book batch b c o b' c' o
   suspect : {b' : BroadcastView} {c' : ConsensusView} (q p : ℕ) → broadcast.Suspected b b' q p → consensus.Suspected c c' q p → Step B C book batch b c o b' c' o
-  propose : {c' : ConsensusView} {o' : Ledger} (p s : ℕ) → Waiting b o p s → propose_answer c (o.instance p) p s ≡ 0
+  propose : {c' : ConsensusView} {o' : Ledger} (p s : ℕ) → Waiting b o p s → propose_answer c (o.instance p) p s ≡ Ok tt
       → consensus.Proposed C c c' (o.instance p) p s → Counted o o' → Step B C book batch b c o b c' o'
   take : {o' : Ledger} (p s : ℕ) → Runs b.net p → c.decision (o.instance p) p ≡ Some s → Taken batch o o' p s → Step B C book batch b c o b c o'
 

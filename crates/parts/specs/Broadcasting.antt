@@ -1,5 +1,5 @@
 -- What it is to be a broadcast.
-use Rattle.std.specs.Prelude.{◌≡◌, ℕ, ◌+◌, ◌^◌, ◌<◌, ◌≤◌, Bool, true, cond, List, is_some, Some, None, Option, ◌==◌}
+use Rattle.std.specs.Prelude.{◌≡◌, ℕ, ◌+◌, ◌^◌, ◌<◌, ◌≤◌, Bool, true, cond, List, Ok, is_some, Some, None, Option, ◌==◌}
 use Rattle.notes.specs.Sets.{has}
 use Rattle.parts.specs.Views.{BroadcastView, Runs, Quiet}
 use Rattle.parts.specs.Refusals.{post_answer, carry_answer, lose_answer, crash_answer, suspect_answer}
@@ -75,14 +75,14 @@ pub record Meaning {S : Type 0} (view : S → BroadcastView) (made : S → Type 
   pub bound_fits_32_bits : bound < 2 ^ 32
   pub new_made : (n : ℕ) → made (start n)
   pub new_means : (n : ℕ) → Started n (view (start n))
-  pub post_made : (s : S) (p m : ℕ) → made s → post_answer (view s) p m ≡ 0 → made (posting s p m)
-  pub post_means : (s : S) (p m : ℕ) → made s → post_answer (view s) p m ≡ 0 → Posted bound (view s) (view (posting s p m)) p m
-  pub carry_made : (s : S) (i : ℕ) → made s → carry_answer (view s).net i ≡ 0 → made (carrying s i)
-  pub carry_means : (s : S) (i : ℕ) → made s → carry_answer (view s).net i ≡ 0 → Carried (view s) (view (carrying s i))
-  pub lose_made : (s : S) (i : ℕ) → made s → lose_answer (view s).net i ≡ 0 → made (losing s i)
-  pub lose_means : (s : S) (i : ℕ) → made s → lose_answer (view s).net i ≡ 0 → Lost (view s) (view (losing s i)) i
-  pub crash_made : (s : S) (p : ℕ) → made s → crash_answer (view s).net p ≡ 0 → made (crashing s p)
-  pub crash_means : (s : S) (p : ℕ) → made s → crash_answer (view s).net p ≡ 0 → Crashed (view s) (view (crashing s p)) p
-  pub suspect_made : (s : S) (q p : ℕ) → made s → suspect_answer (view s).net q p ≡ 0 → made (suspecting s q p)
-  pub suspect_means : (s : S) (q p : ℕ) → made s → suspect_answer (view s).net q p ≡ 0 → Suspected (view s) (view (suspecting s q p)) q p
+  pub post_made : (s : S) (p m : ℕ) → made s → post_answer (view s) p m ≡ Ok tt → made (posting s p m)
+  pub post_means : (s : S) (p m : ℕ) → made s → post_answer (view s) p m ≡ Ok tt → Posted bound (view s) (view (posting s p m)) p m
+  pub carry_made : (s : S) (i : ℕ) → made s → carry_answer (view s).net i ≡ Ok tt → made (carrying s i)
+  pub carry_means : (s : S) (i : ℕ) → made s → carry_answer (view s).net i ≡ Ok tt → Carried (view s) (view (carrying s i))
+  pub lose_made : (s : S) (i : ℕ) → made s → lose_answer (view s).net i ≡ Ok tt → made (losing s i)
+  pub lose_means : (s : S) (i : ℕ) → made s → lose_answer (view s).net i ≡ Ok tt → Lost (view s) (view (losing s i)) i
+  pub crash_made : (s : S) (p : ℕ) → made s → crash_answer (view s).net p ≡ Ok tt → made (crashing s p)
+  pub crash_means : (s : S) (p : ℕ) → made s → crash_answer (view s).net p ≡ Ok tt → Crashed (view s) (view (crashing s p)) p
+  pub suspect_made : (s : S) (q p : ℕ) → made s → suspect_answer (view s).net q p ≡ Ok tt → made (suspecting s q p)
+  pub suspect_means : (s : S) (q p : ℕ) → made s → suspect_answer (view s).net q p ≡ Ok tt → Suspected (view s) (view (suspecting s q p)) q p
   pub lawful : (s : S) → made s → Lawful (view s)

@@ -1,5 +1,5 @@
 -- What it is to be a consensus.
-use Rattle.std.specs.Prelude.{◌≡◌, ℕ, ◌+◌, ◌^◌, ◌<◌, ◌≤◌, Bool, true, cond, ◌&&◌, List, is_some, Some, None, Option, ◌==◌}
+use Rattle.std.specs.Prelude.{◌≡◌, ℕ, ◌+◌, ◌^◌, ◌<◌, ◌≤◌, Bool, true, cond, ◌&&◌, List, Ok, is_some, Some, None, Option, ◌==◌}
 use Rattle.parts.specs.Views.{ConsensusView, Runs, Quiet}
 use Rattle.parts.specs.Refusals.{propose_answer, carry_answer, lose_answer, crash_answer, suspect_answer}
 use Rattle.parts.specs.Nets.{NewNet, SameCards, NetCarried, NetLost, NetCrashed, NetSuspected, LawfulNet}
@@ -73,14 +73,14 @@ pub record Meaning {S : Type 0} (view : S → ConsensusView) (made : S → Type 
   pub bound_fits_32_bits : bound < 2 ^ 32
   pub new_made : (n : ℕ) → made (start n)
   pub new_means : (n : ℕ) → Started n (view (start n))
-  pub propose_made : (x : S) (k p s : ℕ) → made x → s < 2 ^ 32 → propose_answer (view x) k p s ≡ 0 → made (proposing x k p s)
-  pub propose_means : (x : S) (k p s : ℕ) → made x → s < 2 ^ 32 → propose_answer (view x) k p s ≡ 0 → Proposed bound (view x) (view (proposing x k p s)) k p s
-  pub carry_made : (x : S) (i : ℕ) → made x → carry_answer (view x).net i ≡ 0 → made (carrying x i)
-  pub carry_means : (x : S) (i : ℕ) → made x → carry_answer (view x).net i ≡ 0 → Carried (view x) (view (carrying x i))
-  pub lose_made : (x : S) (i : ℕ) → made x → lose_answer (view x).net i ≡ 0 → made (losing x i)
-  pub lose_means : (x : S) (i : ℕ) → made x → lose_answer (view x).net i ≡ 0 → Lost (view x) (view (losing x i)) i
-  pub crash_made : (x : S) (p : ℕ) → made x → crash_answer (view x).net p ≡ 0 → made (crashing x p)
-  pub crash_means : (x : S) (p : ℕ) → made x → crash_answer (view x).net p ≡ 0 → Crashed (view x) (view (crashing x p)) p
-  pub suspect_made : (x : S) (q p : ℕ) → made x → suspect_answer (view x).net q p ≡ 0 → made (suspecting x q p)
-  pub suspect_means : (x : S) (q p : ℕ) → made x → suspect_answer (view x).net q p ≡ 0 → Suspected (view x) (view (suspecting x q p)) q p
+  pub propose_made : (x : S) (k p s : ℕ) → made x → s < 2 ^ 32 → propose_answer (view x) k p s ≡ Ok tt → made (proposing x k p s)
+  pub propose_means : (x : S) (k p s : ℕ) → made x → s < 2 ^ 32 → propose_answer (view x) k p s ≡ Ok tt → Proposed bound (view x) (view (proposing x k p s)) k p s
+  pub carry_made : (x : S) (i : ℕ) → made x → carry_answer (view x).net i ≡ Ok tt → made (carrying x i)
+  pub carry_means : (x : S) (i : ℕ) → made x → carry_answer (view x).net i ≡ Ok tt → Carried (view x) (view (carrying x i))
+  pub lose_made : (x : S) (i : ℕ) → made x → lose_answer (view x).net i ≡ Ok tt → made (losing x i)
+  pub lose_means : (x : S) (i : ℕ) → made x → lose_answer (view x).net i ≡ Ok tt → Lost (view x) (view (losing x i)) i
+  pub crash_made : (x : S) (p : ℕ) → made x → crash_answer (view x).net p ≡ Ok tt → made (crashing x p)
+  pub crash_means : (x : S) (p : ℕ) → made x → crash_answer (view x).net p ≡ Ok tt → Crashed (view x) (view (crashing x p)) p
+  pub suspect_made : (x : S) (q p : ℕ) → made x → suspect_answer (view x).net q p ≡ Ok tt → made (suspecting x q p)
+  pub suspect_means : (x : S) (q p : ℕ) → made x → suspect_answer (view x).net q p ≡ Ok tt → Suspected (view x) (view (suspecting x q p)) q p
   pub lawful : (x : S) → made x → Lawful (view x)

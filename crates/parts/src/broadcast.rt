@@ -1,7 +1,7 @@
-ghost use Rattle.std.specs.Prelude.{◌≡◌, ℕ, Bool, List, length, IfOk, if◌then◌else◌, Option, nat_eq};
+ghost use Rattle.std.specs.Prelude.{◌≡◌, ℕ, Bool, List, length, is_ok, IfOk, if◌then◌else◌, Option};
 ghost use Rattle.std.specs.List.{slice_get};
 ghost use Rattle.notes.specs.Models.{bits};
-ghost use Rattle.parts.specs.Refusals.{answered, post_answer, carry_answer, lose_answer, crash_answer, suspect_answer};
+ghost use Rattle.parts.specs.Refusals.{post_answer, carry_answer, lose_answer, crash_answer, suspect_answer};
 ghost use Rattle.parts.specs.Broadcasting.{broadcast_view, Meaning};
 
 use crate::refusal::Refusal;
@@ -56,24 +56,24 @@ pub trait Broadcast: Sized {
         ensures { IfOk result (λ x. state x ≡ start count) };
 
     fn post(&mut self, card: usize, note: usize) -> Result<(), Refusal>
-        ensures answer { answered result ≡ post_answer (broadcast_view cards crashed suspects wire work poster handed (state self.old)) card note }
-        ensures after { state self.new ≡ (if nat_eq (answered result) 0 then posting (state self.old) card note else state self.old) };
+        ensures answer { result ≡ post_answer (broadcast_view cards crashed suspects wire work poster handed (state self.old)) card note }
+        ensures after { state self.new ≡ (if is_ok result then posting (state self.old) card note else state self.old) };
 
     fn carry(&mut self, item: usize) -> Result<(), Refusal>
-        ensures answer { answered result ≡ carry_answer (broadcast_view cards crashed suspects wire work poster handed (state self.old)).net item }
-        ensures after { state self.new ≡ (if nat_eq (answered result) 0 then carrying (state self.old) item else state self.old) };
+        ensures answer { result ≡ carry_answer (broadcast_view cards crashed suspects wire work poster handed (state self.old)).net item }
+        ensures after { state self.new ≡ (if is_ok result then carrying (state self.old) item else state self.old) };
 
     fn lose(&mut self, item: usize) -> Result<(), Refusal>
-        ensures answer { answered result ≡ lose_answer (broadcast_view cards crashed suspects wire work poster handed (state self.old)).net item }
-        ensures after { state self.new ≡ (if nat_eq (answered result) 0 then losing (state self.old) item else state self.old) };
+        ensures answer { result ≡ lose_answer (broadcast_view cards crashed suspects wire work poster handed (state self.old)).net item }
+        ensures after { state self.new ≡ (if is_ok result then losing (state self.old) item else state self.old) };
 
     fn crash(&mut self, card: usize) -> Result<(), Refusal>
-        ensures answer { answered result ≡ crash_answer (broadcast_view cards crashed suspects wire work poster handed (state self.old)).net card }
-        ensures after { state self.new ≡ (if nat_eq (answered result) 0 then crashing (state self.old) card else state self.old) };
+        ensures answer { result ≡ crash_answer (broadcast_view cards crashed suspects wire work poster handed (state self.old)).net card }
+        ensures after { state self.new ≡ (if is_ok result then crashing (state self.old) card else state self.old) };
 
     fn suspect(&mut self, by: usize, card: usize) -> Result<(), Refusal>
-        ensures answer { answered result ≡ suspect_answer (broadcast_view cards crashed suspects wire work poster handed (state self.old)).net by card }
-        ensures after { state self.new ≡ (if nat_eq (answered result) 0 then suspecting (state self.old) by card else state self.old) };
+        ensures answer { result ≡ suspect_answer (broadcast_view cards crashed suspects wire work poster handed (state self.old)).net by card }
+        ensures after { state self.new ≡ (if is_ok result then suspecting (state self.old) by card else state self.old) };
 
     fn bound() -> u32
         ensures { result ≡ bound };

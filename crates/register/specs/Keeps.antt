@@ -1,5 +1,5 @@
 -- `new` and the calls make registers that hold together.
-use Rattle.std.specs.Prelude.{◌≡◌, ℕ, ◌^◌, ◌<◌, Bool, true, false, cond, not, ◌&&◌, ◌||◌, ◌⊎◌, List, [], ◌∷◌, length, replicate, is_some, Some, None, Option, ◌==◌, refl}
+use Rattle.std.specs.Prelude.{◌≡◌, ℕ, ◌^◌, ◌<◌, Bool, true, false, cond, not, ◌&&◌, ◌||◌, ◌⊎◌, List, [], ◌∷◌, length, replicate, is_some, Some, None, Option, ◌==◌, refl, Ok}
 use Rattle.std.proofs.Common.{sym, ap, subst, ◌∙◌, inl, inr, ⊎_elim, arith}
 use borrow.Author.Tests.{clash}
 use Rattle.std.specs.List.{slice_get, remove, AllByRecursion}
@@ -42,12 +42,12 @@ new_made n =
 
 -- A proposal.
 
-pub proposal_after : (x : RegisterState) (k p s j q : ℕ) → MadeRegister x → propose_answer (seen x) k p s ≡ 0 → ballot_in (with_ballot x.proposals k p (Some s)) j q ≡ cond (j == k && q == p) (Some s) (ballot_in x.proposals j q)
+pub proposal_after : (x : RegisterState) (k p s j q : ℕ) → MadeRegister x → propose_answer (seen x) k p s ≡ Ok tt → ballot_in (with_ballot x.proposals k p (Some s)) j q ≡ cond (j == k && q == p) (Some s) (ballot_in x.proposals j q)
 proposal_after x k p s j q g h =
     let f = propose_accepted (seen x) k p s h in
     ballot_written x.proposals k p j q (Some s) g.proposals_shaped f.3 (omega (arith, f.0, g.sound.few))
 
-proposed_stays : (x : RegisterState) (k p s j q r : ℕ) → MadeRegister x → propose_answer (seen x) k p s ≡ 0 → ballot_in x.proposals j q ≡ Some r → ballot_in (with_ballot x.proposals k p (Some s)) j q ≡ Some r
+proposed_stays : (x : RegisterState) (k p s j q r : ℕ) → MadeRegister x → propose_answer (seen x) k p s ≡ Ok tt → ballot_in x.proposals j q ≡ Some r → ballot_in (with_ballot x.proposals k p (Some s)) j q ≡ Some r
 proposed_stays x k p s j q r g h e =
     ⊎_elim
     (λ b. let z = same_place j q k p b in absurd (clash (sym (propose_accepted (seen x) k p s h).2 ∙ ap is_some (sym (ap (λ a. ballot_in x.proposals a p) z.0 ∙ refl) ∙ ap (ballot_in x.proposals j) (sym z.1) ∙ e))))
@@ -59,7 +59,7 @@ either_way true w o h = refl
 either_way false true o h = refl
 either_way false false o h = ⊎_elim (λ e. e) (λ e. absurd (clash e)) h
 
-pub propose_made : (x : RegisterState) (k p s : ℕ) → MadeRegister x → s < 2 ^ 32 → propose_answer (seen x) k p s ≡ 0 → MadeRegister (propose_on x k p s)
+pub propose_made : (x : RegisterState) (k p s : ℕ) → MadeRegister x → s < 2 ^ 32 → propose_answer (seen x) k p s ≡ Ok tt → MadeRegister (propose_on x k p s)
 propose_made x k p s g fits h =
     let f = propose_accepted (seen x) k p s h in
     let new : List (List (Option ℕ)) = with_ballot x.proposals k p (Some s) in
@@ -161,14 +161,14 @@ taken_made x i y g e =
     shaped true f f' = f
     shaped false f f' = f'
 
-pub carry_made : (x : RegisterState) (i : ℕ) → MadeRegister x → carry_answer (seen x).net i ≡ 0 → MadeRegister (carry_on x i)
+pub carry_made : (x : RegisterState) (i : ℕ) → MadeRegister x → carry_answer (seen x).net i ≡ Ok tt → MadeRegister (carry_on x i)
 carry_made x i g h =
     let t = carried_item x.cards x.wire (length x.wire) i h in
     rw t.1 (taken_made x i t.0 g t.1)
 
 -- A loss, a crash, a suspicion.
 
-pub lose_made : (x : RegisterState) (i : ℕ) → MadeRegister x → lose_answer (seen x).net i ≡ 0 → MadeRegister (lose_on x i)
+pub lose_made : (x : RegisterState) (i : ℕ) → MadeRegister x → lose_answer (seen x).net i ≡ Ok tt → MadeRegister (lose_on x i)
 lose_made x i g h =
     let t = lost_item x.cards x.wire (length x.wire) i h in
     record {
@@ -191,7 +191,7 @@ lose_made x i g h =
 same_items : (c c' : CardState) (t : List (List (Option ℕ))) (xs : List (Item ℕ)) → c'.count ≡ c.count → AllByRecursion (Underway c t) xs → AllByRecursion (Underway c' t) xs
 same_items c c' t xs e = All-weaker (Underway c t) (Underway c' t) (λ y u. record { card = subst (λ n. y.from < n) (sym e) u.card; proposed = u.proposed }) xs
 
-pub crash_made : (x : RegisterState) (p : ℕ) → MadeRegister x → crash_answer (seen x).net p ≡ 0 → MadeRegister (crash_on x p)
+pub crash_made : (x : RegisterState) (p : ℕ) → MadeRegister x → crash_answer (seen x).net p ≡ Ok tt → MadeRegister (crash_on x p)
 crash_made x p g h =
     let f = crash_accepted (seen x).net p h in
     record {
@@ -208,7 +208,7 @@ crash_made x p g h =
       due = λ k q u e. g.due k q (or_parts _ _ (sym (crash_more x.cards p q g.sound f.0) ∙ u)).1 e;
     }
 
-pub suspect_made : (x : RegisterState) (q p : ℕ) → MadeRegister x → suspect_answer (seen x).net q p ≡ 0 → MadeRegister (suspect_on x q p)
+pub suspect_made : (x : RegisterState) (q p : ℕ) → MadeRegister x → suspect_answer (seen x).net q p ≡ Ok tt → MadeRegister (suspect_on x q p)
 suspect_made x q p g h =
     let f = suspect_accepted (seen x).net q p h in
     record {

@@ -1,5 +1,5 @@
 -- Each call, from what it makes of a register to what the interface says of it.
-use Rattle.std.specs.Prelude.{◌≡◌, ℕ, ◌^◌, ◌<◌, Bool, not, ◌&&◌, ◌⊎◌, List, [], length, Some, None, ◌==◌, refl}
+use Rattle.std.specs.Prelude.{◌≡◌, ℕ, ◌^◌, ◌<◌, Bool, not, ◌&&◌, ◌⊎◌, List, [], length, Some, None, ◌==◌, refl, Ok}
 use Rattle.std.proofs.Common.{sym, ap, ◌∙◌, inl, ⊎_elim, arith}
 use borrow.Author.Tests.{clash}
 use Rattle.std.specs.List.{slice_get, remove}
@@ -32,7 +32,7 @@ same_decisions v w e = record { decisions_stand = λ k p s h. ap (λ f. f k p) e
 pub new_means : (n : ℕ) → Started n (seen (new_register n))
 new_means n = record { net = new_net n; nothing_proposed = λ k p. same_rows 32 6 k p None; nothing_decided = λ k p. same_rows 32 6 k p None }
 
-pub propose_means : (x : RegisterState) (k p s : ℕ) → MadeRegister x → s < 2 ^ 32 → propose_answer (seen x) k p s ≡ 0 → Proposed 1 (seen x) (seen (propose_on x k p s)) k p s
+pub propose_means : (x : RegisterState) (k p s : ℕ) → MadeRegister x → s < 2 ^ 32 → propose_answer (seen x) k p s ≡ Ok tt → Proposed 1 (seen x) (seen (propose_on x k p s)) k p s
 propose_means x k p s g fits h =
     record {
       same_cards = same_cards x.cards _ _ _ _;
@@ -67,16 +67,16 @@ taken_means x i y g e l =
       };
     }
 
-pub carry_means : (x : RegisterState) (i : ℕ) → MadeRegister x → carry_answer (seen x).net i ≡ 0 → Carried (seen x) (seen (carry_on x i))
+pub carry_means : (x : RegisterState) (i : ℕ) → MadeRegister x → carry_answer (seen x).net i ≡ Ok tt → Carried (seen x) (seen (carry_on x i))
 carry_means x i g h =
     let t = carried_item x.cards x.wire (length x.wire) i h in
     rw t.1 (taken_means x i t.0 g t.1 t.2)
 
-pub lose_means : (x : RegisterState) (i : ℕ) → MadeRegister x → lose_answer (seen x).net i ≡ 0 → Lost (seen x) (seen (lose_on x i)) i
+pub lose_means : (x : RegisterState) (i : ℕ) → MadeRegister x → lose_answer (seen x).net i ≡ Ok tt → Lost (seen x) (seen (lose_on x i)) i
 lose_means x i g h =
     record { net = net_lost x.cards x.wire i (lost_item x.cards x.wire (length x.wire) i h).2; proposals_stay = λ k p. refl; decisions_stay = λ k p. refl }
 
-pub crash_means : (x : RegisterState) (p : ℕ) → MadeRegister x → crash_answer (seen x).net p ≡ 0 → Crashed (seen x) (seen (crash_on x p)) p
+pub crash_means : (x : RegisterState) (p : ℕ) → MadeRegister x → crash_answer (seen x).net p ≡ Ok tt → Crashed (seen x) (seen (crash_on x p)) p
 crash_means x p g h =
     record {
       net = net_crashed x.cards p _ _ _ _ g.sound (crash_accepted (seen x).net p h).0 (part_all (senders x.wire)) (omega arith);
@@ -84,7 +84,7 @@ crash_means x p g h =
       decisions_stay = λ k q. refl;
     }
 
-pub suspect_means : (x : RegisterState) (q p : ℕ) → MadeRegister x → suspect_answer (seen x).net q p ≡ 0 → Suspected (seen x) (seen (suspect_on x q p)) q p
+pub suspect_means : (x : RegisterState) (q p : ℕ) → MadeRegister x → suspect_answer (seen x).net q p ≡ Ok tt → Suspected (seen x) (seen (suspect_on x q p)) q p
 suspect_means x q p g h =
     let f = suspect_accepted (seen x).net q p h in
     record { net = net_suspected x.cards q p _ _ _ _ g.sound f.0 f.1 (omega arith); proposals_stay = λ k r. refl; decided_more = same_decisions _ _ refl }

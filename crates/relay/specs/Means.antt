@@ -1,5 +1,5 @@
 -- Each call of relay, from what it makes of the state to what the interface says of it.
-use Rattle.std.specs.Prelude.{◌≡◌, ℕ, ◌<◌, true, false, length, Some, None, refl}
+use Rattle.std.specs.Prelude.{◌≡◌, ℕ, ◌<◌, true, false, length, Some, None, refl, Ok}
 use Rattle.std.proofs.Common.{sym, ap, ◌∙◌, ⊎_elim, arith}
 use borrow.Author.Tests.{clash}
 use Rattle.std.specs.List.{slice_get}
@@ -35,10 +35,10 @@ meet_hands x y p m g e same l up j =
       crashed_sets_stay = λ q h. meet_others_stay x p m q (λ z. both_ways _ (ap (λ c. crashed_in c q) same ∙ ap (crashed_in x.cards) z ∙ up) h) ∙ ap (λ t. set_in t q) e;
     }
 
-pub post_made : (x : SpreadState) (p m : ℕ) → MadeSpread x → post_answer (seen x) p m ≡ 0 → MadeSpread (post_on x p m)
+pub post_made : (x : SpreadState) (p m : ℕ) → MadeSpread x → post_answer (seen x) p m ≡ Ok tt → MadeSpread (post_on x p m)
 post_made x p m g h = let f = post_accepted (seen x) p m h in keeps.post_made x p m g f.0 f.1 f.2
 
-pub post_means : (x : SpreadState) (p m : ℕ) → MadeSpread x → post_answer (seen x) p m ≡ 0 → Posted 30 (seen x) (seen (post_on x p m)) p m
+pub post_means : (x : SpreadState) (p m : ℕ) → MadeSpread x → post_answer (seen x) p m ≡ Ok tt → Posted 30 (seen x) (seen (post_on x p m)) p m
 post_means x p m g h =
     let f = post_accepted (seen x) p m h in
     record {
@@ -48,7 +48,7 @@ post_means x p m g h =
       handed_more = meet_hands (posted_by x p m) x p m (keeps.posted_sound x p m g.whole f.0 f.2) refl refl f.0 f.1 f.2;
     }
 
-pub carry_made : (x : SpreadState) (i : ℕ) → MadeSpread x → carry_answer (seen x).net i ≡ 0 → MadeSpread (carry_on x i)
+pub carry_made : (x : SpreadState) (i : ℕ) → MadeSpread x → carry_answer (seen x).net i ≡ Ok tt → MadeSpread (carry_on x i)
 carry_made x i g h = let t = carried_item x.cards x.wire (spread_work x) i h in rw t.1 (keeps.receive_made x i t.0 g t.1)
 
 receive_means : (x : SpreadState) (i : ℕ) (y : Item ℕ) → SoundSpread x → slice_get x.wire i ≡ Some y → i < length x.wire → Carried (seen x) (seen (meet_on (without_item x i) y.to y.load))
@@ -60,28 +60,28 @@ receive_means x i y g e l =
       handed_more = meet_hands (without_item x i) x y.to y.load (keeps.removed_sound x i g) refl refl u.card u.up (posted_below x.posters 32 y.load g.notes u.posted);
     }
 
-pub carry_means : (x : SpreadState) (i : ℕ) → MadeSpread x → carry_answer (seen x).net i ≡ 0 → Carried (seen x) (seen (carry_on x i))
+pub carry_means : (x : SpreadState) (i : ℕ) → MadeSpread x → carry_answer (seen x).net i ≡ Ok tt → Carried (seen x) (seen (carry_on x i))
 carry_means x i g h =
     let t = carried_item x.cards x.wire (spread_work x) i h in
     rw t.1 (receive_means x i t.0 g.whole t.1 t.2)
 
-pub lose_made : (x : SpreadState) (i : ℕ) → MadeSpread x → lose_answer (seen x).net i ≡ 0 → MadeSpread (without_item x i)
+pub lose_made : (x : SpreadState) (i : ℕ) → MadeSpread x → lose_answer (seen x).net i ≡ Ok tt → MadeSpread (without_item x i)
 lose_made x i g h = let t = lost_item x.cards x.wire (spread_work x) i h in keeps.lose_made x i t.0 g t.1 t.3
 
-pub lose_means : (x : SpreadState) (i : ℕ) → MadeSpread x → lose_answer (seen x).net i ≡ 0 → Lost (seen x) (seen (without_item x i)) i
+pub lose_means : (x : SpreadState) (i : ℕ) → MadeSpread x → lose_answer (seen x).net i ≡ Ok tt → Lost (seen x) (seen (without_item x i)) i
 lose_means x i g h =
     record { net = lose_net x i (lost_item x.cards x.wire (spread_work x) i h).2; posters_stay = λ j. refl; sets_stay = λ p. refl }
 
-pub crash_made : (x : SpreadState) (p : ℕ) → MadeSpread x → crash_answer (seen x).net p ≡ 0 → MadeSpread (crash_on x p)
+pub crash_made : (x : SpreadState) (p : ℕ) → MadeSpread x → crash_answer (seen x).net p ≡ Ok tt → MadeSpread (crash_on x p)
 crash_made x p g h = keeps.crash_made x p g (crash_accepted (seen x).net p h).0
 
-pub crash_means : (x : SpreadState) (p : ℕ) → MadeSpread x → crash_answer (seen x).net p ≡ 0 → Crashed (seen x) (seen (crash_on x p)) p
+pub crash_means : (x : SpreadState) (p : ℕ) → MadeSpread x → crash_answer (seen x).net p ≡ Ok tt → Crashed (seen x) (seen (crash_on x p)) p
 crash_means x p g h = record { net = crash_net x p g.whole (crash_accepted (seen x).net p h).0; posters_stay = λ j. refl; sets_stay = λ q. refl }
 
-pub suspect_made : (x : SpreadState) (q p : ℕ) → MadeSpread x → suspect_answer (seen x).net q p ≡ 0 → MadeSpread (suspect_on x q p)
+pub suspect_made : (x : SpreadState) (q p : ℕ) → MadeSpread x → suspect_answer (seen x).net q p ≡ Ok tt → MadeSpread (suspect_on x q p)
 suspect_made x q p g h = let f = suspect_accepted (seen x).net q p h in keeps.suspect_made x q p g f.0 f.1 f.3
 
-pub suspect_means : (x : SpreadState) (q p : ℕ) → MadeSpread x → suspect_answer (seen x).net q p ≡ 0 → Suspected (seen x) (seen (suspect_on x q p)) q p
+pub suspect_means : (x : SpreadState) (q p : ℕ) → MadeSpread x → suspect_answer (seen x).net q p ≡ Ok tt → Suspected (seen x) (seen (suspect_on x q p)) q p
 suspect_means x q p g h =
     let f = suspect_accepted (seen x).net q p h in
     record { net = suspect_net x q p g.whole f.0 f.1; posters_stay = λ j. refl; handed_more = record { nothing_taken_out = λ r m e. e; crashed_sets_stay = λ r e. refl } }

@@ -1,5 +1,5 @@
 -- A carrier that every run keeps good, and what the accepted calls tell of it.
-use Rattle.std.proofs.Common.{◌≡◌, ℕ, zero, suc, ◌+◌, ◌*◌, ◌<◌, ◌≤◌, Bool, true, false, cond, not, ◌&&◌, ◌||◌, eqb, ltb, List, [], ◌∷◌, length, set, is_some, Some, None, Option, sym, refl, ap, ◌∙◌, subst, inl, inr, mul-le-mul_right, arith}
+use Rattle.std.proofs.Common.{◌≡◌, ℕ, zero, suc, ◌+◌, ◌*◌, ◌<◌, ◌≤◌, Bool, true, false, cond, not, ◌&&◌, ◌||◌, eqb, ltb, List, [], ◌∷◌, length, set, is_some, Some, None, Option, sym, refl, ap, ◌∙◌, subst, inl, inr, mul-le-mul_right, arith, Ok}
 use Rattle.std.proofs.lemmas.Bool.{eqb-true, eq-eqb, ne_eqb, ltb-true, ltb-false, cases_eq, and_from, both_ways, cond-true, cond-false}
 use Rattle.parts.specs.Views.{BroadcastView}
 use Rattle.parts.specs.Refusals.{post_answer, carry_answer, lose_answer, crash_answer, suspect_answer, acting_answer}
@@ -135,7 +135,7 @@ module _ {X Y : Type 0} (b : Broadcasts X) (c : Consensuses Y) (M : Means b c) (
         go true e = told_same _ (good_take b c M s G p (eqb-true (take_reply b c s p) 0 e)) refl (λ _. refl) (λ _. refl) (λ _ _. refl) refl
         go false e = F
 
-    post_both : (p m : ℕ) → post_reply b c s p m ≡ 0 → (m < length s.order) × (post_answer (shown b s.broadcast) p m ≡ 0)
+    post_both : (p m : ℕ) → post_reply b c s p m ≡ 0 → (m < length s.order) × (post_answer (shown b s.broadcast) p m ≡ Ok tt)
     post_both p m e = go (ltb m (length s.order)) refl e
       where
         never : (x y : Bool) → ◌≡◌ {A = ℕ} (cond x (cond y 2 3) 1) 0 → ⊥
@@ -143,8 +143,8 @@ module _ {X Y : Type 0} (b : Broadcasts X) (c : Consensuses Y) (M : Means b c) (
         never true false h = omega arith
         never false y h = omega arith
 
-        go : (x : Bool) → ltb m (length s.order) ≡ x → cond x (post_answer (shown b s.broadcast) p m) (acting_answer (shown b s.broadcast).net p 3) ≡ 0
-            → (m < length s.order) × (post_answer (shown b s.broadcast) p m ≡ 0)
+        go : (x : Bool) → ltb m (length s.order) ≡ x → cond x (post_answer (shown b s.broadcast) p m) (acting_answer (shown b s.broadcast).net p 3) ≡ Ok tt
+            → (m < length s.order) × (post_answer (shown b s.broadcast) p m ≡ Ok tt)
         go true h z = (ltb-true m (length s.order) h, z)
         go false h z = absurd (never (ltb p (b.cards s.broadcast)) (b.crashed s.broadcast p) z)
 

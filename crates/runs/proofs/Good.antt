@@ -1,5 +1,5 @@
 -- What every run keeps of a carrier, call by call.
-use Rattle.std.proofs.Common.{◌≡◌, ℕ, zero, suc, ◌+◌, ◌^◌, ◌<◌, ◌≤◌, Bool, true, false, cond, not, ◌&&◌, ◌||◌, ltb, leb, List, [], length, get_or, set, replicate, is_some, Some, None, filter, Option, sym, refl, ap, ◌∙◌, add-one, arith, length-set, get_or-set_other, get_or-set_same}
+use Rattle.std.proofs.Common.{◌≡◌, ℕ, zero, suc, ◌+◌, ◌^◌, ◌<◌, ◌≤◌, Bool, true, false, cond, not, ◌&&◌, ◌||◌, ltb, leb, List, [], length, get_or, set, replicate, is_some, Some, None, filter, Option, sym, refl, ap, ◌∙◌, add-one, arith, length-set, get_or-set_other, get_or-set_same, Ok}
 use lib.Bits.{bit_xor, and_le_l}
 use lib.Count.{ones, count_trailing_zeros}
 use Rattle.std.proofs.lemmas.Bool.{ltb-true, lt-ltb, and_parts, not-true, cond_both, cond-true}
@@ -159,47 +159,47 @@ module _ {X Y : Type 0} (b : Broadcasts X) (c : Consensuses Y) (M : Means b c) w
     tick : Counted (ledger b c s) (record { log = log_at b c s; instance = instance_at b c s; steps = one_more s.steps })
     tick = record { log = λ p. refl; instance = λ p. refl; steps = step_counted }
 
-    pub good_post : (p m : ℕ) → m < length s.order → post_answer v p m ≡ 0 → Good b c (moved b c s (b.posting s.broadcast p m) s.consensus s.steps)
+    pub good_post : (p m : ℕ) → m < length s.order → post_answer v p m ≡ Ok tt → Good b c (moved b c s (b.posting s.broadcast p m) s.consensus s.steps)
     good_post p m l e = keeps _ _ _ (M.broadcast.post_made s.broadcast p m G.broadcast_made e) G.consensus_made
         (post p m l e (M.broadcast.post_means s.broadcast p m G.broadcast_made e))
 
-    pub good_carry_broadcast : (i : ℕ) → carry_answer v.net i ≡ 0 → Good b c (moved b c s (b.carrying s.broadcast i) s.consensus (one_more s.steps))
+    pub good_carry_broadcast : (i : ℕ) → carry_answer v.net i ≡ Ok tt → Good b c (moved b c s (b.carrying s.broadcast i) s.consensus (one_more s.steps))
     good_carry_broadcast i e = keeps _ _ _ (M.broadcast.carry_made s.broadcast i G.broadcast_made e) G.consensus_made
         (carry_broadcast (M.broadcast.carry_means s.broadcast i G.broadcast_made e) tick)
 
-    pub good_carry_consensus : (i : ℕ) → carry_answer w.net i ≡ 0 → Good b c (moved b c s s.broadcast (c.carrying s.consensus i) (one_more s.steps))
+    pub good_carry_consensus : (i : ℕ) → carry_answer w.net i ≡ Ok tt → Good b c (moved b c s s.broadcast (c.carrying s.consensus i) (one_more s.steps))
     good_carry_consensus i e = keeps _ _ _ G.broadcast_made (M.consensus.carry_made s.consensus i G.consensus_made e)
         (carry_consensus (M.consensus.carry_means s.consensus i G.consensus_made e) tick)
 
-    pub good_lose_broadcast : (i : ℕ) → lose_answer v.net i ≡ 0 → Good b c (moved b c s (b.losing s.broadcast i) s.consensus (one_more s.steps))
+    pub good_lose_broadcast : (i : ℕ) → lose_answer v.net i ≡ Ok tt → Good b c (moved b c s (b.losing s.broadcast i) s.consensus (one_more s.steps))
     good_lose_broadcast i e = keeps _ _ _ (M.broadcast.lose_made s.broadcast i G.broadcast_made e) G.consensus_made
         (lose_broadcast i (M.broadcast.lose_means s.broadcast i G.broadcast_made e) tick)
 
-    pub good_lose_consensus : (i : ℕ) → lose_answer w.net i ≡ 0 → Good b c (moved b c s s.broadcast (c.losing s.consensus i) (one_more s.steps))
+    pub good_lose_consensus : (i : ℕ) → lose_answer w.net i ≡ Ok tt → Good b c (moved b c s s.broadcast (c.losing s.consensus i) (one_more s.steps))
     good_lose_consensus i e = keeps _ _ _ G.broadcast_made (M.consensus.lose_made s.consensus i G.consensus_made e)
         (lose_consensus i (M.consensus.lose_means s.consensus i G.consensus_made e) tick)
 
     -- The consensus accepts what the broadcast accepts.
-    pub crash_both : (p : ℕ) → crash_answer v.net p ≡ 0 → crash_answer w.net p ≡ 0
+    pub crash_both : (p : ℕ) → crash_answer v.net p ≡ Ok tt → crash_answer w.net p ≡ Ok tt
     crash_both p e = crash_same v.net w.net p G.consistent.net ∙ e
 
-    pub suspect_both : (q p : ℕ) → suspect_answer v.net q p ≡ 0 → suspect_answer w.net q p ≡ 0
+    pub suspect_both : (q p : ℕ) → suspect_answer v.net q p ≡ Ok tt → suspect_answer w.net q p ≡ Ok tt
     suspect_both q p e = suspect_same v.net w.net q p G.consistent.net ∙ e
 
-    pub good_crash : (p : ℕ) → crash_answer v.net p ≡ 0 → Good b c (moved b c s (b.crashing s.broadcast p) (c.crashing s.consensus p) s.steps)
+    pub good_crash : (p : ℕ) → crash_answer v.net p ≡ Ok tt → Good b c (moved b c s (b.crashing s.broadcast p) (c.crashing s.consensus p) s.steps)
     good_crash p e = let f = crash_both p e in
         keeps _ _ _ (M.broadcast.crash_made s.broadcast p G.broadcast_made e) (M.consensus.crash_made s.consensus p G.consensus_made f)
         (crash p (M.broadcast.crash_means s.broadcast p G.broadcast_made e) (M.consensus.crash_means s.consensus p G.consensus_made f))
 
-    pub good_suspect : (q p : ℕ) → suspect_answer v.net q p ≡ 0 → Good b c (moved b c s (b.suspecting s.broadcast q p) (c.suspecting s.consensus q p) s.steps)
+    pub good_suspect : (q p : ℕ) → suspect_answer v.net q p ≡ Ok tt → Good b c (moved b c s (b.suspecting s.broadcast q p) (c.suspecting s.consensus q p) s.steps)
     good_suspect q p e = let f = suspect_both q p e in
         keeps _ _ _ (M.broadcast.suspect_made s.broadcast q p G.broadcast_made e) (M.consensus.suspect_made s.consensus q p G.consensus_made f)
         (suspect q p (M.broadcast.suspect_means s.broadcast q p G.broadcast_made e) (M.consensus.suspect_means s.consensus q p G.consensus_made f))
 
-    pub proposed : (p : ℕ) → propose_reply b c s p ≡ 0 → propose_answer w (instance_at b c s p) p (waiting b c s p) ≡ 0
+    pub proposed : (p : ℕ) → propose_reply b c s p ≡ 0 → propose_answer w (instance_at b c s p) p (waiting b c s p) ≡ Ok tt
     proposed p e = go (ltb p (card_count b c s)) e
       where
-        go : (t : Bool) → cond t (propose_answer w (instance_at b c s p) p (waiting b c s p)) 1 ≡ 0 → propose_answer w (instance_at b c s p) p (waiting b c s p) ≡ 0
+        go : (t : Bool) → cond t (propose_answer w (instance_at b c s p) p (waiting b c s p)) 1 ≡ Ok tt → propose_answer w (instance_at b c s p) p (waiting b c s p) ≡ Ok tt
         go true h = h
         go false h = absurd (omega arith)
 

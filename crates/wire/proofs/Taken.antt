@@ -1,5 +1,5 @@
 -- The item that an accepted carry or loss takes off the wire.
-use Rattle.std.proofs.Common.{◌≡◌, ℕ, suc, ◌<◌, true, List, ◌++◌, length, get_or, take, drop, Some, unwrap_or, sym, ap, ◌∙◌, subst, arith}
+use Rattle.std.proofs.Common.{◌≡◌, ℕ, suc, ◌<◌, true, List, ◌++◌, length, get_or, take, drop, Some, unwrap_or, sym, ap, ◌∙◌, subst, arith, Ok}
 use Rattle.std.specs.List.{slice_get, remove}
 use Rattle.std.specs.Option.{option_map}
 use Rattle.std.proofs.lemmas.List.Edits.{length-remove}
@@ -19,14 +19,14 @@ module _ {P : Type 0} (c : CardState) (xs : List (Item P)) (k i : ℕ) where
   there : i < length xs → (y : Item P) × (slice_get xs i ≡ Some y)
   there h = some_held (slice_get xs i) (nth_there xs i ∙ lt-ltb i (length xs) h)
 
-  pub carried_item : carry_answer (net_of c (senders xs) k) i ≡ 0 → (y : Item P) × (slice_get xs i ≡ Some y) × (i < length xs)
+  pub carried_item : carry_answer (net_of c (senders xs) k) i ≡ Ok tt → (y : Item P) × (slice_get xs i ≡ Some y) × (i < length xs)
   carried_item h =
       let l : i < length xs = omega (arith, carry_accepted (net_of c (senders xs) k) i h, length_senders xs) in
       let t = there l in
       (t.0, t.1, l)
 
   -- Its sender has crashed.
-  pub lost_item : lose_answer (net_of c (senders xs) k) i ≡ 0 → (y : Item P) × (slice_get xs i ≡ Some y) × (i < length xs) × (crashed_in c y.from ≡ true)
+  pub lost_item : lose_answer (net_of c (senders xs) k) i ≡ Ok tt → (y : Item P) × (slice_get xs i ≡ Some y) × (i < length xs) × (crashed_in c y.from ≡ true)
   lost_item h =
       let f = lose_accepted (net_of c (senders xs) k) i h in
       let l : i < length xs = omega (arith, f.0, length_senders xs) in

@@ -1,9 +1,9 @@
 #![tactic(auto)]
 
-ghost use Rattle.std.specs.Prelude.{◌≡◌, ℕ, ◌+◌, ◌<◌, ◌≤◌, false, List, [], ◌++◌, length, is_some, IfOk, if◌then◌else◌, nat_eq, nat_lt, slice_index_or};
+ghost use Rattle.std.specs.Prelude.{◌≡◌, ℕ, ◌+◌, ◌<◌, ◌≤◌, false, List, [], ◌++◌, length, is_ok, is_some, IfOk, if◌then◌else◌, nat_lt, slice_index_or};
 ghost use Rattle.std.specs.List.{slice_get, remove};
 ghost use Rattle.std.specs.Option.{unwrap_or};
-ghost use Rattle.parts.specs.Refusals.{answered, lose_answer};
+ghost use Rattle.parts.specs.Refusals.{lose_answer};
 ghost use Rattle.cards.specs.Cards.{cards_of, net_of};
 ghost use Rattle.wire.specs.Wires.{items_of, room_of, item as item_of, senders, joined, goes_to, sending, sent, without_to, turned, turned_times};
 
@@ -94,8 +94,8 @@ impl<P: Copy> Wire<P> {
 
     // Takes off an item whose sender has crashed; any other is refused.
     pub fn lose(&mut self, cards: &Cards, item: usize) -> Result<(), Refusal>
-        ensures answer { answered result ≡ lose_answer (net_of (cards_of cards.now) (senders (items_of self.old)) 0) item }
-        ensures after { items_of self.new ≡ (if nat_eq (answered result) 0 then remove (items_of self.old) item else items_of self.old) }
+        ensures answer { result ≡ lose_answer (net_of (cards_of cards.now) (senders (items_of self.old)) 0) item }
+        ensures after { items_of self.new ≡ (if is_ok result then remove (items_of self.old) item else items_of self.old) }
         ensures fewer { length (items_of self.new) ≤ length (items_of self.old) }
         ensures room { room_of self.new ≡ room_of self.old }
     {

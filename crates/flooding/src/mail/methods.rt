@@ -1,7 +1,7 @@
-ghost use Rattle.std.specs.Prelude.{◌≡◌, ◌+◌, ◌<◌, ◌≤◌, false, [], ◌∷◌, ◌++◌, length, is_some, IfOk, if◌then◌else◌, nat_eq, nat_lt};
+ghost use Rattle.std.specs.Prelude.{◌≡◌, ◌+◌, ◌<◌, ◌≤◌, false, [], ◌∷◌, ◌++◌, length, is_ok, is_some, IfOk, if◌then◌else◌, nat_lt};
 ghost use Rattle.std.specs.List.{slice_get, remove};
 ghost use Rattle.std.specs.Option.{option_map};
-ghost use Rattle.parts.specs.Refusals.{answered, lose_answer};
+ghost use Rattle.parts.specs.Refusals.{lose_answer};
 ghost use Rattle.cards.specs.Cards.{cards_of, net_of};
 ghost use Rattle.wire.specs.Wires.{items_of, senders, sent, without_to};
 ghost use Rattle.flooding.specs.Mail.{load_of, item_state, mail_of, mail_room, taking_one, taking_at, taking_in};
@@ -66,8 +66,8 @@ impl Mail {
     }
 
     pub(crate) fn lose(&mut self, cards: &Cards, item: usize) -> Result<(), Refusal>
-        ensures answer { answered result ≡ lose_answer (net_of (cards_of cards.now) (senders (mail_of self.old)) 0) item }
-        ensures after { mail_of self.new ≡ (if nat_eq (answered result) 0 then remove (mail_of self.old) item else mail_of self.old) }
+        ensures answer { result ≡ lose_answer (net_of (cards_of cards.now) (senders (mail_of self.old)) 0) item }
+        ensures after { mail_of self.new ≡ (if is_ok result then remove (mail_of self.old) item else mail_of self.old) }
         ensures fewer { length (mail_of self.new) ≤ length (mail_of self.old) }
         ensures room { mail_room self.new ≡ mail_room self.old }
     {

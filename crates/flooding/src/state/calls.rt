@@ -1,8 +1,8 @@
-ghost use Rattle.std.specs.Prelude.{◌≡◌, length, IfOk, if◌then◌else◌, nat_eq};
+ghost use Rattle.std.specs.Prelude.{◌≡◌, length, is_ok, IfOk, if◌then◌else◌};
 ghost use Rattle.std.specs.Option.{option_map};
 ghost use Rattle.std.specs.List.{slice_get};
 ghost use Rattle.notes.specs.Models.{bits};
-ghost use Rattle.parts.specs.Refusals.{answered, propose_answer, carry_answer, lose_answer, crash_answer, suspect_answer};
+ghost use Rattle.parts.specs.Refusals.{propose_answer, carry_answer, lose_answer, crash_answer, suspect_answer};
 ghost use Rattle.flooding.specs.Flooding.{flooding_of, flooding_cards, flooding_crashed, flooding_suspects, flooding_wire, flooding_proposal, flooding_decision, seen, new_flooding, propose_on, carry_on, lose_on, crash_on, suspect_on};
 
 use super::Flooding;
@@ -32,8 +32,8 @@ impl Flooding {
 
     // A proposer knows itself and enters round 1.
     pub fn propose(&mut self, instance: usize, card: usize, notes: NoteSet) -> Result<(), Refusal>
-        ensures answer { answered result ≡ propose_answer (seen (flooding_of self.old)) instance card (bits notes) }
-        ensures after { flooding_of self.new ≡ (if nat_eq (answered result) 0 then propose_on (flooding_of self.old) instance card (bits notes) else flooding_of self.old) }
+        ensures answer { result ≡ propose_answer (seen (flooding_of self.old)) instance card (bits notes) }
+        ensures after { flooding_of self.new ≡ (if is_ok result then propose_on (flooding_of self.old) instance card (bits notes) else flooding_of self.old) }
     {
         if let Err(refusal) = self.proposals.propose(&self.cards, instance, card, notes) {
             return Err(refusal);
@@ -44,8 +44,8 @@ impl Flooding {
     }
 
     pub fn carry(&mut self, item: usize) -> Result<(), Refusal>
-        ensures answer { answered result ≡ carry_answer (seen (flooding_of self.old)).net item }
-        ensures after { flooding_of self.new ≡ (if nat_eq (answered result) 0 then carry_on (flooding_of self.old) item else flooding_of self.old) }
+        ensures answer { result ≡ carry_answer (seen (flooding_of self.old)).net item }
+        ensures after { flooding_of self.new ≡ (if is_ok result then carry_on (flooding_of self.old) item else flooding_of self.old) }
     {
         let Some(taken) = self.wire.take(item) else {
             return Err(Refusal::NoSuchItem);
@@ -55,15 +55,15 @@ impl Flooding {
     }
 
     pub fn lose(&mut self, item: usize) -> Result<(), Refusal>
-        ensures answer { answered result ≡ lose_answer (seen (flooding_of self.old)).net item }
-        ensures after { flooding_of self.new ≡ (if nat_eq (answered result) 0 then lose_on (flooding_of self.old) item else flooding_of self.old) }
+        ensures answer { result ≡ lose_answer (seen (flooding_of self.old)).net item }
+        ensures after { flooding_of self.new ≡ (if is_ok result then lose_on (flooding_of self.old) item else flooding_of self.old) }
     {
         self.wire.lose(&self.cards, item)
     }
 
     pub fn crash(&mut self, card: usize) -> Result<(), Refusal>
-        ensures answer { answered result ≡ crash_answer (seen (flooding_of self.old)).net card }
-        ensures after { flooding_of self.new ≡ (if nat_eq (answered result) 0 then crash_on (flooding_of self.old) card else flooding_of self.old) }
+        ensures answer { result ≡ crash_answer (seen (flooding_of self.old)).net card }
+        ensures after { flooding_of self.new ≡ (if is_ok result then crash_on (flooding_of self.old) card else flooding_of self.old) }
     {
         if let Err(refusal) = self.cards.crash(card) {
             return Err(refusal);
@@ -74,8 +74,8 @@ impl Flooding {
 
     // The suspicion is worked through by ascending instance.
     pub fn suspect(&mut self, by: usize, card: usize) -> Result<(), Refusal>
-        ensures answer { answered result ≡ suspect_answer (seen (flooding_of self.old)).net by card }
-        ensures after { flooding_of self.new ≡ (if nat_eq (answered result) 0 then suspect_on (flooding_of self.old) by card else flooding_of self.old) }
+        ensures answer { result ≡ suspect_answer (seen (flooding_of self.old)).net by card }
+        ensures after { flooding_of self.new ≡ (if is_ok result then suspect_on (flooding_of self.old) by card else flooding_of self.old) }
     {
         if let Err(refusal) = self.cards.suspect(by, card) {
             return Err(refusal);

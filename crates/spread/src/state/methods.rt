@@ -1,7 +1,7 @@
-ghost use Rattle.std.specs.Prelude.{◌≡◌, ◌≤◌, true, false, [], length, is_some, IfOk, if◌then◌else◌, Decides, nat_eq, nat_lt};
+ghost use Rattle.std.specs.Prelude.{◌≡◌, ◌≤◌, true, false, [], length, is_ok, is_some, IfOk, if◌then◌else◌, Decides, nat_lt};
 ghost use Rattle.std.specs.List.{slice_get};
 ghost use Rattle.notes.specs.Models.{bits};
-ghost use Rattle.parts.specs.Refusals.{answered, post_answer, lose_answer, crash_answer, suspect_answer};
+ghost use Rattle.parts.specs.Refusals.{post_answer, lose_answer, crash_answer, suspect_answer};
 ghost use Rattle.parts.specs.Views.{Quiet};
 ghost use Rattle.cards.specs.Cards.{crashed_in, suspects_in, net_of};
 ghost use Rattle.tables.specs.Tables.{poster_in, set_in, posts_view};
@@ -31,8 +31,8 @@ impl Spread {
     }
 
     pub fn post(&mut self, card: usize, note: usize) -> Result<(), Refusal>
-        ensures answer { answered result ≡ post_answer (posts_view (spread_of self.old).cards (spread_of self.old).posters) card note }
-        ensures after { spread_of self.new ≡ (if nat_eq (answered result) 0 then post_on (spread_of self.old) card note else spread_of self.old) }
+        ensures answer { result ≡ post_answer (posts_view (spread_of self.old).cards (spread_of self.old).posters) card note }
+        ensures after { spread_of self.new ≡ (if is_ok result then post_on (spread_of self.old) card note else spread_of self.old) }
     {
         if let Err(refusal) = self.posters.post(&self.cards, card, note) {
             return Err(refusal);
@@ -56,15 +56,15 @@ impl Spread {
     }
 
     pub fn lose(&mut self, item: usize) -> Result<(), Refusal>
-        ensures answer { answered result ≡ lose_answer (net_of (spread_of self.old).cards (senders (spread_of self.old).wire) 0) item }
-        ensures after { spread_of self.new ≡ (if nat_eq (answered result) 0 then without_item (spread_of self.old) item else spread_of self.old) }
+        ensures answer { result ≡ lose_answer (net_of (spread_of self.old).cards (senders (spread_of self.old).wire) 0) item }
+        ensures after { spread_of self.new ≡ (if is_ok result then without_item (spread_of self.old) item else spread_of self.old) }
     {
         self.wire.lose(&self.cards, item)
     }
 
     pub fn crash(&mut self, card: usize) -> Result<(), Refusal>
-        ensures answer { answered result ≡ crash_answer (net_of (spread_of self.old).cards (senders (spread_of self.old).wire) 0) card }
-        ensures after { spread_of self.new ≡ (if nat_eq (answered result) 0 then crash_on (spread_of self.old) card else spread_of self.old) }
+        ensures answer { result ≡ crash_answer (net_of (spread_of self.old).cards (senders (spread_of self.old).wire) 0) card }
+        ensures after { spread_of self.new ≡ (if is_ok result then crash_on (spread_of self.old) card else spread_of self.old) }
     {
         if let Err(refusal) = self.cards.crash(card) {
             return Err(refusal);
@@ -74,8 +74,8 @@ impl Spread {
     }
 
     pub fn suspect(&mut self, by: usize, card: usize) -> Result<(), Refusal>
-        ensures answer { answered result ≡ suspect_answer (net_of (spread_of self.old).cards (senders (spread_of self.old).wire) 0) by card }
-        ensures after { spread_of self.new ≡ (if nat_eq (answered result) 0 then suspect_on (spread_of self.old) by card else spread_of self.old) }
+        ensures answer { result ≡ suspect_answer (net_of (spread_of self.old).cards (senders (spread_of self.old).wire) 0) by card }
+        ensures after { spread_of self.new ≡ (if is_ok result then suspect_on (spread_of self.old) by card else spread_of self.old) }
     {
         self.cards.suspect(by, card)
     }

@@ -1,7 +1,7 @@
-ghost use Rattle.std.specs.Prelude.{◌≡◌, if◌then◌else◌, Some, nat_eq};
+ghost use Rattle.std.specs.Prelude.{◌≡◌, is_ok, if◌then◌else◌, Some};
 ghost use Rattle.std.specs.Option.{option_map};
 ghost use Rattle.notes.specs.Models.{bits};
-ghost use Rattle.parts.specs.Refusals.{answered, propose_answer};
+ghost use Rattle.parts.specs.Refusals.{propose_answer};
 ghost use Rattle.cards.specs.Cards.{cards_of};
 ghost use Rattle.tables.specs.Tables.{ballots_of, new_ballots, ballot_in, with_ballot, proposals_view};
 
@@ -40,8 +40,8 @@ impl Ballots {
         card: usize,
         notes: NoteSet,
     ) -> Result<(), Refusal>
-        ensures answer { answered result ≡ propose_answer (proposals_view (cards_of cards.now) (ballots_of self.old)) instance card (bits notes) }
-        ensures after { ballots_of self.new ≡ (if nat_eq (answered result) 0 then with_ballot (ballots_of self.old) instance card (Some (bits notes)) else ballots_of self.old) }
+        ensures answer { result ≡ propose_answer (proposals_view (cards_of cards.now) (ballots_of self.old)) instance card (bits notes) }
+        ensures after { ballots_of self.new ≡ (if is_ok result then with_ballot (ballots_of self.old) instance card (Some (bits notes)) else ballots_of self.old) }
     {
         if card >= cards.count() {
             return Err(Refusal::NoSuchCard);

@@ -1,5 +1,5 @@
-ghost use Rattle.std.specs.Prelude.{◌≡◌, replicate, if◌then◌else◌, Some, None, nat_eq, slice_set};
-ghost use Rattle.parts.specs.Refusals.{answered, post_answer};
+ghost use Rattle.std.specs.Prelude.{◌≡◌, replicate, is_ok, if◌then◌else◌, Some, None, slice_set};
+ghost use Rattle.parts.specs.Refusals.{post_answer};
 ghost use Rattle.cards.specs.Cards.{cards_of};
 ghost use Rattle.tables.specs.Tables.{posters_of, poster_in, posts_view};
 
@@ -23,8 +23,8 @@ impl Posters {
 
     // Writes down that the card has posted the note, unless the post is refused.
     pub fn post(&mut self, cards: &Cards, card: usize, note: usize) -> Result<(), Refusal>
-        ensures answer { answered result ≡ post_answer (posts_view (cards_of cards.now) (posters_of self.old)) card note }
-        ensures after { posters_of self.new ≡ (if nat_eq (answered result) 0 then slice_set (posters_of self.old) note (Some card) else posters_of self.old) }
+        ensures answer { result ≡ post_answer (posts_view (cards_of cards.now) (posters_of self.old)) card note }
+        ensures after { posters_of self.new ≡ (if is_ok result then slice_set (posters_of self.old) note (Some card) else posters_of self.old) }
     {
         if card >= cards.count() {
             return Err(Refusal::NoSuchCard);

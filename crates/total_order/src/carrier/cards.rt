@@ -99,7 +99,7 @@ impl<B: Broadcast, C: Consensus> Carrier<B, C> {
 
     // Why propose would be refused, if it would.
     pub(crate) fn may_propose(&self, card: usize) -> Result<(), Refusal>
-        ensures { answered result ≡ propose_reply B.Broadcast C.Consensus (model B.Broadcast C.Consensus self.now) card }
+        ensures { result ≡ propose_reply B.Broadcast C.Consensus (model B.Broadcast C.Consensus self.now) card }
     {
         if card >= self.card_count() || card >= self.consensus.card_count() {
             return Err(Refusal::NoSuchCard);
@@ -119,7 +119,7 @@ impl<B: Broadcast, C: Consensus> Carrier<B, C> {
 
     // The decision that take would take.
     pub(crate) fn decision(&self, card: usize) -> Result<NoteSet, Refusal>
-        ensures answer { answered result ≡ take_reply B.Broadcast C.Consensus (model B.Broadcast C.Consensus self.now) card }
+        ensures answer { result ≡ take_reply B.Broadcast C.Consensus (model B.Broadcast C.Consensus self.now) card }
         ensures decided { IfOk result (λ s. (card < 6) × (bits s ≡ number_in (decision_at B.Broadcast C.Consensus (model B.Broadcast C.Consensus self.now) card))) }
     {
         if card >= self.card_count() {

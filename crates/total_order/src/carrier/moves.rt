@@ -1,7 +1,7 @@
 // The calls on a carrier other than settle. A refused call changes nothing.
 ghost use Rattle.std.specs.Prelude.{◌≡◌, ℕ, ◌<◌, length, nat_lt, slice_set};
 ghost use Rattle.notes.specs.Models.{bits};
-ghost use Rattle.parts.specs.Refusals.{answered, propose_answer};
+ghost use Rattle.parts.specs.Refusals.{propose_answer};
 ghost use Rattle.parts.specs.Shown.{told};
 ghost use Rattle.logs.specs.Orders.{appended};
 ghost use Rattle.total_order.specs.Carrying.{one_more, if_accepted, moved, counted, log_at, instance_at, waiting, propose_reply, posting, carrying, losing, crashing, suspecting, proposing, taking};
@@ -17,7 +17,7 @@ use parts::refusal::Refusal;
 impl<B: Broadcast, C: Consensus> Carrier<B, C> {
     // A card posts a note of the book.
     pub fn post(&mut self, card: usize, note: usize) -> Result<(), Refusal>
-        ensures answer { answered result ≡ (posting B.Broadcast C.Consensus (model B.Broadcast C.Consensus self.old) card note).answer }
+        ensures answer { result ≡ (posting B.Broadcast C.Consensus (model B.Broadcast C.Consensus self.old) card note).answer }
         ensures after { model B.Broadcast C.Consensus self.new ≡ (posting B.Broadcast C.Consensus (model B.Broadcast C.Consensus self.old) card note).next }
     {
         if self.has_note(note) {
@@ -34,7 +34,7 @@ impl<B: Broadcast, C: Consensus> Carrier<B, C> {
 
     // An item of a wire arrives.
     pub fn carry(&mut self, wire: Wire, item: usize) -> Result<(), Refusal>
-        ensures answer { answered result ≡ (carrying B.Broadcast C.Consensus (model B.Broadcast C.Consensus self.old) wire item).answer }
+        ensures answer { result ≡ (carrying B.Broadcast C.Consensus (model B.Broadcast C.Consensus self.old) wire item).answer }
         ensures after { model B.Broadcast C.Consensus self.new ≡ (carrying B.Broadcast C.Consensus (model B.Broadcast C.Consensus self.old) wire item).next }
     {
         let answer = match wire {
@@ -46,7 +46,7 @@ impl<B: Broadcast, C: Consensus> Carrier<B, C> {
 
     // An item of a wire, from a crashed sender, is lost.
     pub fn lose(&mut self, wire: Wire, item: usize) -> Result<(), Refusal>
-        ensures answer { answered result ≡ (losing B.Broadcast C.Consensus (model B.Broadcast C.Consensus self.old) wire item).answer }
+        ensures answer { result ≡ (losing B.Broadcast C.Consensus (model B.Broadcast C.Consensus self.old) wire item).answer }
         ensures after { model B.Broadcast C.Consensus self.new ≡ (losing B.Broadcast C.Consensus (model B.Broadcast C.Consensus self.old) wire item).next }
     {
         let answer = match wire {
@@ -58,7 +58,7 @@ impl<B: Broadcast, C: Consensus> Carrier<B, C> {
 
     // A card crashes; the broadcast and the consensus are told.
     pub fn crash(&mut self, card: usize) -> Result<(), Refusal>
-        ensures answer { answered result ≡ (crashing B.Broadcast C.Consensus (model B.Broadcast C.Consensus self.old) card).answer }
+        ensures answer { result ≡ (crashing B.Broadcast C.Consensus (model B.Broadcast C.Consensus self.old) card).answer }
         ensures after { model B.Broadcast C.Consensus self.new ≡ (crashing B.Broadcast C.Consensus (model B.Broadcast C.Consensus self.old) card).next }
     {
         self.broadcast.crash(card)?;
@@ -68,7 +68,7 @@ impl<B: Broadcast, C: Consensus> Carrier<B, C> {
 
     // A card comes to suspect another; the broadcast and the consensus are told.
     pub fn suspect(&mut self, by: usize, card: usize) -> Result<(), Refusal>
-        ensures answer { answered result ≡ (suspecting B.Broadcast C.Consensus (model B.Broadcast C.Consensus self.old) by card).answer }
+        ensures answer { result ≡ (suspecting B.Broadcast C.Consensus (model B.Broadcast C.Consensus self.old) by card).answer }
         ensures after { model B.Broadcast C.Consensus self.new ≡ (suspecting B.Broadcast C.Consensus (model B.Broadcast C.Consensus self.old) by card).next }
     {
         self.broadcast.suspect(by, card)?;
@@ -78,7 +78,7 @@ impl<B: Broadcast, C: Consensus> Carrier<B, C> {
 
     // A card puts its waiting notes forward.
     pub fn propose(&mut self, card: usize) -> Result<(), Refusal>
-        ensures answer { answered result ≡ (proposing B.Broadcast C.Consensus (model B.Broadcast C.Consensus self.old) card).answer }
+        ensures answer { result ≡ (proposing B.Broadcast C.Consensus (model B.Broadcast C.Consensus self.old) card).answer }
         ensures after { model B.Broadcast C.Consensus self.new ≡ (proposing B.Broadcast C.Consensus (model B.Broadcast C.Consensus self.old) card).next }
     {
         let answer = self.propose_waiting(card);
@@ -87,7 +87,7 @@ impl<B: Broadcast, C: Consensus> Carrier<B, C> {
 
     // A card appends what is decided in its instance to its log, and moves to the next instance.
     pub fn take(&mut self, card: usize) -> Result<(), Refusal>
-        ensures answer { answered result ≡ (taking B.Broadcast C.Consensus (model B.Broadcast C.Consensus self.old) card).answer }
+        ensures answer { result ≡ (taking B.Broadcast C.Consensus (model B.Broadcast C.Consensus self.old) card).answer }
         ensures after { model B.Broadcast C.Consensus self.new ≡ (taking B.Broadcast C.Consensus (model B.Broadcast C.Consensus self.old) card).next }
     {
         let decided = self.decision(card)?;
@@ -123,7 +123,7 @@ impl<B: Broadcast, C: Consensus> Carrier<B, C> {
 
     // Proposes for a card, without counting a step.
     fn propose_waiting(&mut self, card: usize) -> Result<(), Refusal>
-        ensures answer { answered result ≡ propose_reply B.Broadcast C.Consensus (model B.Broadcast C.Consensus self.old) card }
+        ensures answer { result ≡ propose_reply B.Broadcast C.Consensus (model B.Broadcast C.Consensus self.old) card }
         ensures after { model B.Broadcast C.Consensus self.new ≡ moved B.Broadcast C.Consensus (model B.Broadcast C.Consensus self.old) (model B.Broadcast C.Consensus self.old).broadcast
             (if_accepted B.Broadcast C.Consensus (answered result) (C.Consensus.proposing (model B.Broadcast C.Consensus self.old).consensus (instance_at B.Broadcast C.Consensus (model B.Broadcast C.Consensus self.old) card) card (waiting B.Broadcast C.Consensus (model B.Broadcast C.Consensus self.old) card)) (model B.Broadcast C.Consensus self.old).consensus)
             (model B.Broadcast C.Consensus self.old).steps }
@@ -137,7 +137,7 @@ impl<B: Broadcast, C: Consensus> Carrier<B, C> {
     // Proposes the waiting notes of a card in its instance.
     fn put_forward(&mut self, card: usize) -> Result<(), Refusal>
         requires { card < 6 }
-        ensures answer { answered result ≡ propose_answer (told C.Consensus (model B.Broadcast C.Consensus self.old).consensus) (instance_at B.Broadcast C.Consensus (model B.Broadcast C.Consensus self.old) card) card (waiting B.Broadcast C.Consensus (model B.Broadcast C.Consensus self.old) card) }
+        ensures answer { result ≡ propose_answer (told C.Consensus (model B.Broadcast C.Consensus self.old).consensus) (instance_at B.Broadcast C.Consensus (model B.Broadcast C.Consensus self.old) card) card (waiting B.Broadcast C.Consensus (model B.Broadcast C.Consensus self.old) card) }
         ensures after { model B.Broadcast C.Consensus self.new ≡ moved B.Broadcast C.Consensus (model B.Broadcast C.Consensus self.old) (model B.Broadcast C.Consensus self.old).broadcast
             (if_accepted B.Broadcast C.Consensus (answered result) (C.Consensus.proposing (model B.Broadcast C.Consensus self.old).consensus (instance_at B.Broadcast C.Consensus (model B.Broadcast C.Consensus self.old) card) card (waiting B.Broadcast C.Consensus (model B.Broadcast C.Consensus self.old) card)) (model B.Broadcast C.Consensus self.old).consensus)
             (model B.Broadcast C.Consensus self.old).steps }

@@ -1,6 +1,5 @@
 use Rattle.std.proofs.Common.{sym, ap, arith}
 use Rattle.notes.specs.Models.{bits}
-use Rattle.parts.specs.Refusals.{answered}
 use Rattle.parts.proofs.Accepted.{propose_accepted}
 use Rattle.cards.specs.Cards.{cards_of}
 use Rattle.tables.specs.Tables.{ballots_of, proposals_view, free_ballots}
@@ -14,7 +13,7 @@ invariant_of-self c =
     record {
       sendable = s.sendable;
       keepable = s.keepable;
-      room = omega (arith, s.room, free_after (cards_of s.cards) s.proposals c.args.instance c.args.card (bits c.args.notes) (answered c.propose.result) (ballots_of c.propose.new.self) s.cards.few e.answer e.after);
+      room = omega (arith, s.room, free_after (cards_of s.cards) s.proposals c.args.instance c.args.card (bits c.args.notes) c.propose.result (ballots_of c.propose.new.self) s.cards.few e.answer e.after);
     }
 
 -- The proposal is one of those that were to come, and takes the room of its items.
