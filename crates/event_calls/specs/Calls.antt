@@ -5,8 +5,8 @@ use Rattle.entries.specs.declared.event.Wire.{Wire as EventWire}
 use Rattle.entries.specs.declared.event.Wire.TheVariants as wires
 use Rattle.total_order.specs.declared.call.Call.{Call}
 use Rattle.total_order.specs.declared.call.Call.TheVariants.{Post, Carry, Lose, Crash, Suspect, Propose, Take, Settle}
-use Rattle.total_order.specs.declared.call.Wire.{Wire}
-use Rattle.total_order.specs.declared.call.Wire.TheVariants.{Broadcast, Consensus}
+use Rattle.parts.specs.declared.wires.Wire.{Wire}
+use Rattle.parts.specs.declared.wires.Wire.TheVariants.{Broadcast, Consensus}
 
 abbrev pub wire_of : EventWire → Wire
 wire_of wires.Broadcast = Broadcast

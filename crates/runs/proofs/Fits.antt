@@ -16,8 +16,8 @@ use Rattle.total_order.specs.Carrying.{Carrying, one_more, moved, counted, card_
 use Rattle.total_order.specs.Calls.{calling}
 use Rattle.total_order.specs.declared.call.Call.{Call}
 use Rattle.total_order.specs.declared.call.Call.TheVariants.{Post, Carry, Lose, Crash, Suspect, Propose, Take, Settle}
-use Rattle.total_order.specs.declared.call.Wire.{Wire}
-use Rattle.total_order.specs.declared.call.Wire.TheVariants.{Broadcast, Consensus}
+use Rattle.parts.specs.declared.wires.Wire.{Wire}
+use Rattle.parts.specs.declared.wires.Wire.TheVariants.{Broadcast, Consensus}
 use Rattle.runs.specs.Runs.{left_by, answers_to}
 use Rattle.runs.specs.Tally.{Tally, with_steps, with_post, with_crash, with_suspicion, with_call, with_calls}
 use Rattle.runs.proofs.Good.{Means, Good, LB, LC, R, step_counted, good_post, good_carry_broadcast, good_carry_consensus, good_lose_broadcast, good_lose_consensus, good_crash, good_suspect, good_propose, good_take, crash_both, suspect_both}

@@ -1,33 +1,25 @@
--- A call as a value, and its answer: a number and the values that it tells.
-use Rattle.std.specs.Prelude.{ℕ, Bool, false}
-use Rattle.parts.specs.Refusals.{number}
+-- A call as a value, and its answer.
+use Rattle.std.specs.Prelude.{Ok, Err, Result, Some, None, Option}
+use Rattle.parts.specs.declared.refusal.Refusal.{Refusal}
 use Rattle.parts.specs.declared.broadcast.Broadcast.{Ghosts as Broadcasts}
 use Rattle.parts.specs.declared.consensus.Consensus.{Ghosts as Consensuses}
 use Rattle.total_order.specs.Carrying.{Carrying, Reply, posting, carrying, losing, crashing, suspecting, proposing, taking, settled, settle_steps, at_rest}
-use Rattle.total_order.specs.declared.call.Answer.{Answer}
-use Rattle.total_order.specs.declared.call.Answer.TheVariants.{Accepted, Refused, Settled}
+use Rattle.total_order.specs.declared.call.Settling.{Settling}
 use Rattle.total_order.specs.declared.call.Call.{Call}
 use Rattle.total_order.specs.declared.call.Call.TheVariants.{Post, Carry, Lose, Crash, Suspect, Propose, Take, Settle}
 
--- 0 or the number of the refusal; how many steps a settle made, and whether the carrier was then at rest.
-pub record Told : Type 0 where
-  pub refusal : ℕ
-  pub made : ℕ
-  pub rest : Bool
+-- A settle tells what it came to; any other call only whether it is accepted.
+abbrev pub Answer : Type 0
+Answer = Result (Option Settling) Refusal
 
--- What a call other than settle tells.
-abbrev pub told_by : ℕ → Told
-told_by n = record { refusal = n; made = 0; rest = false }
-
-abbrev pub told_of : Answer → Told
-told_of Accepted = told_by 0
-told_of (Refused e) = told_by (number e)
-told_of (Settled r) = record { refusal = 0; made = r.steps; rest = r.at_rest }
+abbrev pub told_by : Result Unit Refusal → Answer
+told_by (Ok x) = Ok None
+told_by (Err e) = Err e
 
 module _ {X Y : Type 0} (b : Broadcasts X) (c : Consensuses Y) where
   -- What a call tells and leaves.
   pub record Outcome : Type 0 where
-    pub tells : Told
+    pub tells : Answer
     pub leaves : Carrying b c
 
   abbrev pub outcome : Reply b c → Outcome
@@ -42,6 +34,6 @@ module _ {X Y : Type 0} (b : Broadcasts X) (c : Consensuses Y) where
   calling s (Propose p) = outcome (proposing b c s p)
   calling s (Take p) = outcome (taking b c s p)
   calling s (Settle limit) = record {
-    tells = record { refusal = 0; made = settle_steps b c limit s; rest = at_rest b c (settled b c limit s) };
+    tells = Ok (Some (record { steps = settle_steps b c limit s; at_rest = at_rest b c (settled b c limit s) }));
     leaves = settled b c limit s;
   }

@@ -1,13 +1,15 @@
 -- The carrier over any broadcast and any consensus: what each call answers and makes.
-use Rattle.std.specs.Prelude.{ℕ, zero, suc, ◌+◌, Bool, cond, not, ◌&&◌, List, [], length, replicate, is_some, Some, None, Option, ◌==◌, nat_eq, nat_le, nat_lt, slice_index, slice_index_or, slice_set}
+use Rattle.std.specs.Prelude.{ℕ, zero, suc, ◌+◌, Bool, cond, not, ◌&&◌, List, [], length, replicate, Ok, Err, Result, is_ok, is_some, Some, None, Option, ◌==◌, nat_le, nat_lt, slice_index, slice_index_or, slice_set}
 use Rattle.notes.specs.Sets.{minus}
+use Rattle.parts.specs.declared.refusal.Refusal.{Refusal}
+use Rattle.parts.specs.declared.refusal.Refusal.TheVariants.{NoSuchCard, CardCrashed, NoSuchNote, NothingDecided}
 use Rattle.parts.specs.Refusals.{post_answer, carry_answer, lose_answer, crash_answer, suspect_answer, propose_answer, acting_answer}
 use Rattle.parts.specs.Shown.{shown, told}
 use Rattle.parts.specs.declared.broadcast.Broadcast.{Ghosts as Broadcasts}
 use Rattle.parts.specs.declared.consensus.Consensus.{Ghosts as Consensuses}
 use Rattle.logs.specs.Orders.{lowest_that, number_in, appended, with_all}
-use Rattle.total_order.specs.declared.call.Wire.{Wire}
-use Rattle.total_order.specs.declared.call.Wire.TheVariants.{Broadcast, Consensus}
+use Rattle.parts.specs.declared.wires.Wire.{Wire}
+use Rattle.parts.specs.declared.wires.Wire.TheVariants.{Broadcast, Consensus}
 
 -- A broadcast, a consensus, the notes of the book in ranking order, for each of six cards a log and the instance that it has come to,
 -- and the count of steps since it was new.
@@ -19,9 +21,9 @@ pub record Carrying {X Y : Type 0} (b : Broadcasts X) (c : Consensuses Y) : Type
   pub instances : List ℕ
   pub steps : ℕ
 
--- What a call answers, 0 or the number of a refusal, and the carrier that it leaves.
+-- What a call answers, and the carrier that it leaves.
 pub record Reply {X Y : Type 0} (b : Broadcasts X) (c : Consensuses Y) : Type 0 where
-  pub answer : ℕ
+  pub answer : Result Unit Refusal
   pub next : Carrying b c
 
 -- One more. A count stops at the highest number of 64 bits; no run comes to it.
@@ -41,15 +43,15 @@ module _ {X Y : Type 0} (b : Broadcasts X) (c : Consensuses Y) where
   fresh cards order = with_parts (b.start cards) (c.start cards) order
 
   -- What an accepted call leaves, and what a refused one.
-  abbrev pub if_accepted : {A : Type 0} → ℕ → A → A → A
-  if_accepted answer after before = cond (answer == 0) after before
+  abbrev pub if_accepted : {A : Type 0} → Result Unit Refusal → A → A → A
+  if_accepted answer after before = cond (is_ok answer) after before
 
   -- A carrier with another broadcast, another consensus and another count of steps.
   abbrev pub moved : Carrying b c → b.State → c.State → ℕ → Carrying b c
   moved s x y steps = record { broadcast = x; consensus = y; order = s.order; logs = s.logs; instances = s.instances; steps = steps }
 
   -- An accepted step is counted.
-  abbrev pub counted : Carrying b c → ℕ → ℕ
+  abbrev pub counted : Carrying b c → Result Unit Refusal → ℕ
   counted s answer = if_accepted answer (one_more s.steps) s.steps
 
   -- The senders of the items of a wire.
@@ -76,8 +78,8 @@ module _ {X Y : Type 0} (b : Broadcasts X) (c : Consensuses Y) where
   waiting s p = minus (b.handed s.broadcast p) (with_all 0 (log_at s p))
 
   -- Post: the note has to be in the book; else it goes as the broadcast has it.
-  abbrev pub post_reply : Carrying b c → ℕ → ℕ → ℕ
-  post_reply s p m = cond (nat_lt m (length s.order)) (post_answer (shown b s.broadcast) p m) (acting_answer (shown b s.broadcast).net p 3)
+  abbrev pub post_reply : Carrying b c → ℕ → ℕ → Result Unit Refusal
+  post_reply s p m = cond (nat_lt m (length s.order)) (post_answer (shown b s.broadcast) p m) (acting_answer (shown b s.broadcast).net p (Err NoSuchNote))
 
   abbrev pub posting : Carrying b c → ℕ → ℕ → Reply b c
   posting s p m = record {
@@ -124,8 +126,8 @@ module _ {X Y : Type 0} (b : Broadcasts X) (c : Consensuses Y) where
       }
 
   -- Propose puts the waiting notes forward in the card's instance, and goes as the consensus has it: a step.
-  abbrev pub propose_reply : Carrying b c → ℕ → ℕ
-  propose_reply s p = cond (nat_lt p (card_count s)) (propose_answer (told c s.consensus) (instance_at s p) p (waiting s p)) 1
+  abbrev pub propose_reply : Carrying b c → ℕ → Result Unit Refusal
+  propose_reply s p = cond (nat_lt p (card_count s)) (propose_answer (told c s.consensus) (instance_at s p) p (waiting s p)) (Err NoSuchCard)
 
   abbrev pub proposing : Carrying b c → ℕ → Reply b c
   proposing s p = record {
@@ -134,8 +136,8 @@ module _ {X Y : Type 0} (b : Broadcasts X) (c : Consensuses Y) where
   }
 
   -- Take appends the decision of the card's instance to its log, in ranking order, and moves the card to the next instance: a step.
-  abbrev pub take_reply : Carrying b c → ℕ → ℕ
-  take_reply s p = cond (nat_lt p (card_count s)) (cond (b.crashed s.broadcast p) 2 (cond (is_some (decision_at s p)) 0 10)) 1
+  abbrev pub take_reply : Carrying b c → ℕ → Result Unit Refusal
+  take_reply s p = cond (nat_lt p (card_count s)) (cond (b.crashed s.broadcast p) (Err CardCrashed) (cond (is_some (decision_at s p)) (Ok tt) (Err NothingDecided))) (Err NoSuchCard)
 
   abbrev pub taking : Carrying b c → ℕ → Reply b c
   taking s p = record {
@@ -152,17 +154,17 @@ module _ {X Y : Type 0} (b : Broadcasts X) (c : Consensuses Y) where
 
   -- Whether take, and propose, would be accepted.
   abbrev pub can_take : Carrying b c → ℕ → Bool
-  can_take s p = take_reply s p == 0
+  can_take s p = is_ok (take_reply s p)
 
   abbrev pub can_propose : Carrying b c → ℕ → Bool
-  can_propose s p = propose_reply s p == 0
+  can_propose s p = is_ok (propose_reply s p)
 
-  -- The lowest card that can take, and that can propose: whose call would not be refused.
+  -- The lowest card that can take, and that can propose.
   unfoldable pub taker : Carrying b c → Option ℕ
-  taker s = lowest_that (λ p. nat_eq (take_reply s p) 0) (card_count s)
+  taker s = lowest_that (can_take s) (card_count s)
 
   unfoldable pub proposer : Carrying b c → Option ℕ
-  proposer s = lowest_that (λ p. nat_eq (propose_reply s p) 0) (card_count s)
+  proposer s = lowest_that (can_propose s) (card_count s)
 
   -- At rest: both wires are empty, and at no card would take or propose be accepted.
   unfoldable pub at_rest : Carrying b c → Bool

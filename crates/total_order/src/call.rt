@@ -1,12 +1,6 @@
 // Calls on a carrier as values, and their answers.
 use parts::refusal::Refusal;
-
-// The wire that an item is on.
-#[derive(Clone, Copy, PartialEq, Eq, Debug)]
-pub enum Wire {
-    Broadcast,
-    Consensus,
-}
+pub use parts::wires::Wire;
 
 #[derive(Clone, Copy, PartialEq, Eq, Debug)]
 pub enum Call {
@@ -32,9 +26,5 @@ pub struct Settling {
     pub at_rest: bool,
 }
 
-#[derive(Clone, Copy, PartialEq, Eq, Debug)]
-pub enum Answer {
-    Accepted,
-    Refused(Refusal),
-    Settled(Settling),
-}
+// A settle tells what it did; any other call only whether it is accepted.
+pub type Answer = Result<Option<Settling>, Refusal>;

@@ -6,7 +6,7 @@ pub use Rattle.board.specs.contracts.state.broadcast.BoardBroadcast.TheImpl.{gho
 pub use Rattle.register.specs.contracts.state.consensus.RegisterConsensus.TheImpl.{ghosts as register}
 use Rattle.total_order.specs.declared.call.Call.{Call}
 use Rattle.total_order.specs.declared.call.Call.TheVariants.{Post, Carry, Propose, Settle}
-use Rattle.total_order.specs.declared.call.Wire.TheVariants.{Broadcast}
+use Rattle.parts.specs.declared.wires.Wire.TheVariants.{Broadcast}
 use Rattle.worked.specs.Reports.{Report, report}
 
 -- Note 1, of block 3, ranks before note 0, of block 7.

@@ -1,10 +1,10 @@
 // What the carrier shows of its cards, and which of them can propose or take.
-ghost use Rattle.std.specs.Prelude.{◌≡◌, ℕ, ◌<◌, ◌≤◌, true, List, [], length, IfOk, Decides};
+ghost use Rattle.std.specs.Prelude.{◌≡◌, ℕ, ◌<◌, ◌≤◌, true, List, [], length, Ok, IfOk, Decides};
+ghost use Rattle.std.specs.Result.{result_and};
 ghost use Rattle.notes.specs.Models.{bits};
 ghost use Rattle.parts.specs.Views.{Quiet};
 ghost use Rattle.parts.specs.Shown.{shown};
 ghost use Rattle.parts.specs.Broadcasting.{UniformAgreement};
-ghost use Rattle.parts.specs.Refusals.{answered};
 ghost use Rattle.notes.specs.Sets.{minus};
 ghost use Rattle.logs.specs.Orders.{number_in, with_all};
 ghost use Rattle.logs.specs.Models.{list_of};
@@ -119,7 +119,7 @@ impl<B: Broadcast, C: Consensus> Carrier<B, C> {
 
     // The decision that take would take.
     pub(crate) fn decision(&self, card: usize) -> Result<NoteSet, Refusal>
-        ensures answer { result ≡ take_reply B.Broadcast C.Consensus (model B.Broadcast C.Consensus self.now) card }
+        ensures answer { result_and result (Ok tt) ≡ take_reply B.Broadcast C.Consensus (model B.Broadcast C.Consensus self.now) card }
         ensures decided { IfOk result (λ s. (card < 6) × (bits s ≡ number_in (decision_at B.Broadcast C.Consensus (model B.Broadcast C.Consensus self.now) card))) }
     {
         if card >= self.card_count() {
@@ -128,10 +128,9 @@ impl<B: Broadcast, C: Consensus> Carrier<B, C> {
         if self.broadcast.has_crashed(card) {
             return Err(Refusal::CardCrashed);
         }
-        match self.consensus.decision_of(self.instance(card), card) {
-            Some(notes) => Ok(notes),
-            None => Err(Refusal::NothingDecided),
-        }
+        self.consensus
+            .decision_of(self.instance(card), card)
+            .ok_or(Refusal::NothingDecided)
     }
 
     // The log of one of six cards.

@@ -1,7 +1,7 @@
 // What rest, a step and a settle are, case by case. These functions do nothing: each states a fact that a method of the carrier rests on.
 ghost use Rattle.std.specs.Prelude.{◌≡◌, ℕ, ◌+◌, ◌-◌, ◌<◌, Bool, true, false, cond, not, ◌&&◌, ◌||◌, ltb, length, is_some, if◌then◌else◌, Some, None, ◌==◌, nat_eq, nat_lt};
 ghost use Rattle.logs.specs.Orders.{lowest_that};
-ghost use Rattle.total_order.specs.declared.call.Wire.TheVariants.{Broadcast as OnBroadcast, Consensus as OnConsensus};
+ghost use Rattle.parts.specs.declared.wires.Wire.TheVariants.{Broadcast as OnBroadcast, Consensus as OnConsensus};
 ghost use Rattle.total_order.specs.Carrying.{card_count, wire_on, can_take, can_propose, carrying};
 ghost use Rattle.total_order.specs.Models.{model};
 ghost use Rattle.total_order.specs.Carrying.{taker, proposer, at_rest, take_or_propose, advanced, settled, settle_steps};

@@ -100,7 +100,7 @@ impl<B: Broadcast, C: Consensus> Carrier<B, C> {
     // Only an accepted call is a step.
     fn count_if_accepted(&mut self, answer: Result<(), Refusal>) -> Result<(), Refusal>
         ensures same { result ≡ answer }
-        ensures after { model B.Broadcast C.Consensus self.new ≡ moved B.Broadcast C.Consensus (model B.Broadcast C.Consensus self.old) (model B.Broadcast C.Consensus self.old).broadcast (model B.Broadcast C.Consensus self.old).consensus (counted B.Broadcast C.Consensus (model B.Broadcast C.Consensus self.old) (answered answer)) }
+        ensures after { model B.Broadcast C.Consensus self.new ≡ moved B.Broadcast C.Consensus (model B.Broadcast C.Consensus self.old) (model B.Broadcast C.Consensus self.old).broadcast (model B.Broadcast C.Consensus self.old).consensus (counted B.Broadcast C.Consensus (model B.Broadcast C.Consensus self.old) answer) }
     {
         if answer.is_ok() {
             self.count_step();
@@ -125,7 +125,7 @@ impl<B: Broadcast, C: Consensus> Carrier<B, C> {
     fn propose_waiting(&mut self, card: usize) -> Result<(), Refusal>
         ensures answer { result ≡ propose_reply B.Broadcast C.Consensus (model B.Broadcast C.Consensus self.old) card }
         ensures after { model B.Broadcast C.Consensus self.new ≡ moved B.Broadcast C.Consensus (model B.Broadcast C.Consensus self.old) (model B.Broadcast C.Consensus self.old).broadcast
-            (if_accepted B.Broadcast C.Consensus (answered result) (C.Consensus.proposing (model B.Broadcast C.Consensus self.old).consensus (instance_at B.Broadcast C.Consensus (model B.Broadcast C.Consensus self.old) card) card (waiting B.Broadcast C.Consensus (model B.Broadcast C.Consensus self.old) card)) (model B.Broadcast C.Consensus self.old).consensus)
+            (if_accepted B.Broadcast C.Consensus result (C.Consensus.proposing (model B.Broadcast C.Consensus self.old).consensus (instance_at B.Broadcast C.Consensus (model B.Broadcast C.Consensus self.old) card) card (waiting B.Broadcast C.Consensus (model B.Broadcast C.Consensus self.old) card)) (model B.Broadcast C.Consensus self.old).consensus)
             (model B.Broadcast C.Consensus self.old).steps }
     {
         if card >= self.card_count() {
@@ -139,7 +139,7 @@ impl<B: Broadcast, C: Consensus> Carrier<B, C> {
         requires { card < 6 }
         ensures answer { result ≡ propose_answer (told C.Consensus (model B.Broadcast C.Consensus self.old).consensus) (instance_at B.Broadcast C.Consensus (model B.Broadcast C.Consensus self.old) card) card (waiting B.Broadcast C.Consensus (model B.Broadcast C.Consensus self.old) card) }
         ensures after { model B.Broadcast C.Consensus self.new ≡ moved B.Broadcast C.Consensus (model B.Broadcast C.Consensus self.old) (model B.Broadcast C.Consensus self.old).broadcast
-            (if_accepted B.Broadcast C.Consensus (answered result) (C.Consensus.proposing (model B.Broadcast C.Consensus self.old).consensus (instance_at B.Broadcast C.Consensus (model B.Broadcast C.Consensus self.old) card) card (waiting B.Broadcast C.Consensus (model B.Broadcast C.Consensus self.old) card)) (model B.Broadcast C.Consensus self.old).consensus)
+            (if_accepted B.Broadcast C.Consensus result (C.Consensus.proposing (model B.Broadcast C.Consensus self.old).consensus (instance_at B.Broadcast C.Consensus (model B.Broadcast C.Consensus self.old) card) card (waiting B.Broadcast C.Consensus (model B.Broadcast C.Consensus self.old) card)) (model B.Broadcast C.Consensus self.old).consensus)
             (model B.Broadcast C.Consensus self.old).steps }
     {
         let instance = self.instance(card);
