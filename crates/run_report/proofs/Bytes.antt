@@ -1,8 +1,5 @@
 -- The bytes of lines.
-use Rattle.std.proofs.Common.{◌≡◌, ℕ, false, eqb, List, [], ◌∷◌, ◌++◌, sym, refl, ap, ◌∙◌, append_assoc}
-use Rattle.parts.specs.Refusals.{number}
-use Rattle.parts.specs.declared.refusal.Refusal.{Refusal}
-use Rattle.parts.specs.declared.refusal.Refusal.TheVariants.{NoSuchCard, CardCrashed, NoSuchNote, AlreadyPosted, CardRuns, NoSuchItem, SenderNotCrashed, AlreadyProposed, NothingToPropose, NothingDecided}
+use Rattle.std.proofs.Common.{◌≡◌, ℕ, List, [], ◌∷◌, ◌++◌, sym, refl, ap, ◌∙◌, append_assoc}
 use Rattle.run_report.specs.Lines.{Line, lines_text}
 
 -- Two words and what follows them in the line.
@@ -12,18 +9,6 @@ two_words a b more = append_assoc a (32 ∷ (b ++ more)) (10 ∷ []) ∙ ap (λ 
 -- The same behind other bytes, in three parts.
 pub in_three_parts : (out front a b more : List ℕ) → ((out ++ (front ++ (a ++ (32 ∷ b)))) ++ more) ++ (10 ∷ []) ≡ out ++ (front ++ ((a ++ (32 ∷ (b ++ more))) ++ (10 ∷ [])))
 in_three_parts out front a b more = simp append_assoc
-
-pub refusals_from_one : (e : Refusal) → eqb (number e) 0 ≡ false
-refusals_from_one NoSuchCard = refl
-refusals_from_one CardCrashed = refl
-refusals_from_one NoSuchNote = refl
-refusals_from_one AlreadyPosted = refl
-refusals_from_one CardRuns = refl
-refusals_from_one NoSuchItem = refl
-refusals_from_one SenderNotCrashed = refl
-refusals_from_one AlreadyProposed = refl
-refusals_from_one NothingToPropose = refl
-refusals_from_one NothingDecided = refl
 
 -- Lines after lines.
 pub lines_append : (xs ys : List Line) → lines_text (xs ++ ys) ≡ lines_text xs ++ lines_text ys

@@ -1,8 +1,9 @@
 -- The lines of a report.
-use Rattle.std.specs.Prelude.{ℕ, ◌+◌, Bool, cond, List, [], ◌∷◌, ◌++◌, map, codes, decimal, ◌==◌}
+use Rattle.std.specs.Prelude.{ℕ, ◌+◌, Bool, cond, List, [], ◌∷◌, ◌++◌, map, codes, decimal, Ok, Err}
 use Rattle.text.specs.Written.{spaced}
 use Rattle.entries.specs.Written.{written_lines}
-use Rattle.total_order.specs.Calls.{Told}
+use Rattle.parts.specs.Refusals.{number}
+use Rattle.total_order.specs.Calls.{Answer}
 
 -- A line is its words. They are written with one space between each two, and a byte 10 behind the last.
 abbrev pub Line : Type 0
@@ -11,14 +12,15 @@ Line = List (List ℕ)
 abbrev pub lines_text : List Line → List ℕ
 lines_text = written_lines spaced
 
--- A refused event has a line: its number, and the number of the refusal. An accepted one, of number 0, has none; no settle is refused.
-abbrev pub refusal_line : ℕ → ℕ → List Line
-refusal_line event refusal = cond (refusal == 0) [] ((codes "no" ∷ decimal event ∷ decimal refusal ∷ []) ∷ [])
+-- A refused event has a line: its number, and the number of the refusal. An accepted one has none; no settle is refused.
+abbrev pub refusal_line : ℕ → Answer → List Line
+refusal_line event (Ok a) = []
+refusal_line event (Err e) = (codes "no" ∷ decimal event ∷ decimal (number e) ∷ []) ∷ []
 
 -- The answers to the events from this number on.
-abbrev pub refusal_lines : ℕ → List Told → List Line
+abbrev pub refusal_lines : ℕ → List Answer → List Line
 refusal_lines event [] = []
-refusal_lines event (answer ∷ answers) = refusal_line event answer.refusal ++ refusal_lines (event + 1) answers
+refusal_lines event (answer ∷ answers) = refusal_line event answer ++ refusal_lines (event + 1) answers
 
 abbrev pub card_word : Bool → List ℕ
 card_word crashed = cond crashed (codes "down") (codes "up")

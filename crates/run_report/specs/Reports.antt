@@ -5,7 +5,7 @@ use Rattle.parts.specs.declared.broadcast.Broadcast.{Ghosts as Broadcasts}
 use Rattle.parts.specs.declared.consensus.Consensus.{Ghosts as Consensuses}
 use Rattle.total_order.specs.Carrying.{Carrying, fresh, card_count, log_at}
 use Rattle.total_order.specs.Carrying.{at_rest}
-use Rattle.total_order.specs.Calls.{Told}
+use Rattle.total_order.specs.Calls.{Answer}
 use Rattle.total_order.specs.declared.call.Call.{Call}
 use Rattle.runs.specs.Runs.{left_by, answers_to}
 use Rattle.run_report.specs.Lines.{Line, lines_text, refusal_lines, log_line, steps_line}
@@ -19,7 +19,7 @@ module _ {X Y : Type 0} (b : Broadcasts X) (c : Consensuses Y) where
   log_lines s = map (log_line_of s) (range_with_len 0 (card_count b c s))
 
   -- What was refused, the log of each card, and the steps.
-  abbrev pub end_text : List Told → Carrying b c → List ℕ
+  abbrev pub end_text : List Answer → Carrying b c → List ℕ
   end_text answers s = lines_text (refusal_lines 0 answers ++ (log_lines s ++ (steps_line s.steps (at_rest b c s) ∷ [])))
 
   abbrev pub text_from : Carrying b c → List Call → List ℕ

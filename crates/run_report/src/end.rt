@@ -1,6 +1,5 @@
 // Writing what a run came to.
-ghost use Rattle.std.specs.Prelude.{◌≡◌, [], ◌∷◌, ◌++◌, map, string_bytes, OnOk};
-ghost use Rattle.total_order.specs.Calls.{told_of};
+ghost use Rattle.std.specs.Prelude.{◌≡◌, [], ◌∷◌, ◌++◌, string_bytes, OnOk};
 ghost use Rattle.total_order.specs.Models.{model};
 ghost use Rattle.run_report.specs.Lines.{lines_text};
 ghost use Rattle.run_report.specs.Reports.{log_line_of, log_lines, end_text};
@@ -9,7 +8,7 @@ use self::facts::end_has_three_parts;
 use crate::lines::{write_log, write_refusals, write_steps};
 use parts::broadcast::Broadcast;
 use parts::consensus::Consensus;
-use std::fmt;
+use std::alloc::AllocError;
 use total_order::call::Answer;
 use total_order::carrier::Carrier;
 
@@ -19,8 +18,8 @@ pub(crate) fn write_end<B: Broadcast, C: Consensus>(
     out: &mut String,
     carrier: &Carrier<B, C>,
     answers: &[Answer],
-) -> fmt::Result
-    ensures { OnOk result (string_bytes out.new ≡ string_bytes out.old ++ end_text B.Broadcast C.Consensus (map told_of answers.now) (model B.Broadcast C.Consensus carrier.now)) }
+) -> Result<(), AllocError>
+    ensures { OnOk result (string_bytes out.new ≡ string_bytes out.old ++ end_text B.Broadcast C.Consensus answers.now (model B.Broadcast C.Consensus carrier.now)) }
 {
     end_has_three_parts(out, carrier, answers);
     write_refusals(out, answers)?;
@@ -29,7 +28,7 @@ pub(crate) fn write_end<B: Broadcast, C: Consensus>(
     Ok(())
 }
 
-fn write_logs<B: Broadcast, C: Consensus>(out: &mut String, carrier: &Carrier<B, C>) -> fmt::Result
+fn write_logs<B: Broadcast, C: Consensus>(out: &mut String, carrier: &Carrier<B, C>) -> Result<(), AllocError>
     ensures { OnOk result (string_bytes out.new ≡ string_bytes out.old ++ lines_text (log_lines B.Broadcast C.Consensus (model B.Broadcast C.Consensus carrier.now))) }
 {
     for card in 0..carrier.card_count() {
@@ -42,7 +41,7 @@ fn write_card<B: Broadcast, C: Consensus>(
     out: &mut String,
     carrier: &Carrier<B, C>,
     card: usize,
-) -> fmt::Result
+) -> Result<(), AllocError>
     ensures { OnOk result (string_bytes out.new ≡ string_bytes out.old ++ lines_text (log_line_of B.Broadcast C.Consensus (model B.Broadcast C.Consensus carrier.now) card ∷ [])) }
 {
     write_log(out, card, carrier.has_crashed(card), carrier.log(card))

@@ -1,9 +1,8 @@
 // The report of a run over any broadcast and any consensus: what was refused, the log of each card, and the steps.
 #![tactic(auto)]
 
-ghost use Rattle.std.specs.Prelude.{◌≡◌, map, length, IfOk, string_bytes};
+ghost use Rattle.std.specs.Prelude.{◌≡◌, length, IfOk, string_bytes};
 ghost use Rattle.logs.specs.Orders.{in_ranking_order};
-ghost use Rattle.total_order.specs.Calls.{told_of};
 ghost use Rattle.total_order.specs.Carrying.{cards_of};
 ghost use Rattle.total_order.specs.Models.{model};
 ghost use Rattle.run_report.specs.Reports.{end_text, report_over};
@@ -53,11 +52,9 @@ fn report_of<B: Broadcast, C: Consensus>(
     carrier: &Carrier<B, C>,
     answers: &[Answer],
 ) -> Result<String, AllocError>
-    ensures { IfOk result (λ out. string_bytes out ≡ end_text B.Broadcast C.Consensus (map told_of answers.now) (model B.Broadcast C.Consensus carrier.now)) }
+    ensures { IfOk result (λ out. string_bytes out ≡ end_text B.Broadcast C.Consensus answers.now (model B.Broadcast C.Consensus carrier.now)) }
 {
     let mut out = String::new(heap);
-    match write_end(&mut out, carrier, answers) {
-        Ok(()) => Ok(out),
-        Err(_) => Err(AllocError),
-    }
+    write_end(&mut out, carrier, answers)?;
+    Ok(out)
 }

@@ -1,18 +1,17 @@
 // Writing the lines of a report.
 ghost use Rattle.std.specs.Prelude.{◌≡◌, [], ◌∷◌, ◌++◌, map, string_bytes, decimal, OnOk};
 ghost use Rattle.text.specs.Written.{spaced_after};
-ghost use Rattle.total_order.specs.Calls.{told_of};
 ghost use Rattle.run_report.specs.Lines.{lines_text, refusal_line, refusal_lines, card_word, log_line, rest_word, steps_line};
 
 use self::facts::{log_line_is, refusal_line_is, steps_line_is};
-use std::fmt;
+use std::alloc::AllocError;
 use total_order::call::Answer;
 
 mod facts;
 
 // One line for each event that was refused.
-pub(crate) fn write_refusals(out: &mut String, answers: &[Answer]) -> fmt::Result
-    ensures { OnOk result (string_bytes out.new ≡ string_bytes out.old ++ lines_text (refusal_lines 0 (map told_of answers.now))) }
+pub(crate) fn write_refusals(out: &mut String, answers: &[Answer]) -> Result<(), AllocError>
+    ensures { OnOk result (string_bytes out.new ≡ string_bytes out.old ++ lines_text (refusal_lines 0 answers.now)) }
 {
     for (event, answer) in answers.iter().enumerate() {
         write_refusal(out, event, *answer)?;
@@ -21,10 +20,10 @@ pub(crate) fn write_refusals(out: &mut String, answers: &[Answer]) -> fmt::Resul
 }
 
 // The number of the event, and the number of the refusal, if it was refused.
-fn write_refusal(out: &mut String, event: usize, answer: Answer) -> fmt::Result
-    ensures { OnOk result (string_bytes out.new ≡ string_bytes out.old ++ lines_text (refusal_line event (told_of answer).refusal)) }
+fn write_refusal(out: &mut String, event: usize, answer: Answer) -> Result<(), AllocError>
+    ensures { OnOk result (string_bytes out.new ≡ string_bytes out.old ++ lines_text (refusal_line event answer)) }
 {
-    if let Answer::Refused(refusal) = answer {
+    if let Err(refusal) = answer {
         refusal_line_is(event, refusal);
         let number = refusal.number();
         write!(out, "no {event} {number}\n")?;
@@ -33,7 +32,7 @@ fn write_refusal(out: &mut String, event: usize, answer: Answer) -> fmt::Result
 }
 
 // The card, whether it runs, and the notes of its log.
-pub(crate) fn write_log(out: &mut String, card: usize, crashed: bool, log: &[usize]) -> fmt::Result
+pub(crate) fn write_log(out: &mut String, card: usize, crashed: bool, log: &[usize]) -> Result<(), AllocError>
     ensures { OnOk result (string_bytes out.new ≡ string_bytes out.old ++ lines_text (log_line card crashed log.now ∷ [])) }
 {
     log_line_is(out, card, crashed, log);
@@ -51,7 +50,7 @@ fn card_word(crashed: bool) -> &'static str
 }
 
 // Each note with a space before it.
-fn write_notes(out: &mut String, log: &[usize]) -> fmt::Result
+fn write_notes(out: &mut String, log: &[usize]) -> Result<(), AllocError>
     ensures { OnOk result (string_bytes out.new ≡ string_bytes out.old ++ spaced_after (map decimal log.now)) }
 {
     for note in log {
@@ -61,7 +60,7 @@ fn write_notes(out: &mut String, log: &[usize]) -> fmt::Result
 }
 
 // The steps, and whether the carrier is at rest.
-pub(crate) fn write_steps(out: &mut String, steps: usize, at_rest: bool) -> fmt::Result
+pub(crate) fn write_steps(out: &mut String, steps: usize, at_rest: bool) -> Result<(), AllocError>
     ensures { OnOk result (string_bytes out.new ≡ string_bytes out.old ++ lines_text (steps_line steps at_rest ∷ [])) }
 {
     steps_line_is(steps, at_rest);

@@ -1,6 +1,10 @@
 -- A carrier that every run keeps good, and what the accepted calls tell of it.
-use Rattle.std.proofs.Common.{◌≡◌, ℕ, zero, suc, ◌+◌, ◌*◌, ◌<◌, ◌≤◌, Bool, true, false, cond, not, ◌&&◌, ◌||◌, eqb, ltb, List, [], ◌∷◌, length, set, is_some, Some, None, Option, sym, refl, ap, ◌∙◌, subst, inl, inr, mul-le-mul_right, arith, Ok}
-use Rattle.std.proofs.lemmas.Bool.{eqb-true, eq-eqb, ne_eqb, ltb-true, ltb-false, cases_eq, and_from, both_ways, cond-true, cond-false}
+use Rattle.std.proofs.Common.{◌≡◌, ℕ, zero, suc, ◌+◌, ◌*◌, ◌<◌, ◌≤◌, Bool, true, false, cond, not, ◌&&◌, ◌||◌, eqb, ltb, List, [], ◌∷◌, length, set, is_some, Some, None, Option, sym, refl, ap, ◌∙◌, subst, inl, inr, mul-le-mul_right, arith, Ok, Err, Result, is_ok}
+use borrow.Author.Tests.{clash}
+use Rattle.std.proofs.lemmas.Bool.{eq-eqb, ne_eqb, ltb-true, ltb-false, cases_eq, and_from, both_ways, cond-true, cond-false}
+use Rattle.parts.specs.declared.refusal.Refusal.{Refusal}
+use Rattle.parts.specs.declared.refusal.Refusal.TheVariants.{NoSuchCard, CardCrashed, NoSuchNote, NoSuchItem}
+use Rattle.parts.proofs.Accepted.{is_accepted}
 use Rattle.parts.specs.Views.{BroadcastView}
 use Rattle.parts.specs.Refusals.{post_answer, carry_answer, lose_answer, crash_answer, suspect_answer, acting_answer}
 use Rattle.parts.specs.Shown.{shown, told}
@@ -12,14 +16,14 @@ use Rattle.order.specs.Words.{sum, one_if, step_bound}
 use Rattle.order.specs.Views.{posts}
 use Rattle.order.proofs.Lists.{sum_le}
 use Rattle.order.proofs.Facts.{within_bound}
-use Rattle.total_order.specs.Carrying.{Carrying, one_more, moved, counted, card_count, log_at, instance_at, decision_at, waiting, post_reply, posting, carrying, losing, crashing, suspecting, propose_reply, proposing, take_reply, taking, taker, proposer, at_rest, take_or_propose, advanced, settled, settle_steps}
-use Rattle.total_order.specs.Calls.{calling}
+use Rattle.total_order.specs.Carrying.{Carrying, one_more, moved, counted, card_count, log_at, instance_at, decision_at, waiting, post_reply, posting, carrying, losing, crashing, suspecting, propose_reply, proposing, take_reply, taking, can_take, can_propose, taker, proposer, at_rest, take_or_propose, advanced, settled, settle_steps}
+use Rattle.total_order.specs.Calls.{told_by, calling}
 use Rattle.total_order.specs.declared.call.Call.{Call}
 use Rattle.total_order.specs.declared.call.Call.TheVariants.{Post, Carry, Lose, Crash, Suspect, Propose, Take, Settle}
 use Rattle.parts.specs.declared.wires.Wire.{Wire}
 use Rattle.parts.specs.declared.wires.Wire.TheVariants.{Broadcast, Consensus}
 use Rattle.runs.specs.Runs.{left_by, answers_to}
-use Rattle.runs.specs.Tally.{Tally, with_steps, with_post, with_crash, with_suspicion, with_call, with_calls}
+use Rattle.runs.specs.Tally.{Tally, with_steps, with_post, with_crash, with_suspicion, with_call, with_answer, with_calls}
 use Rattle.runs.proofs.Good.{Means, Good, LB, LC, R, step_counted, good_post, good_carry_broadcast, good_carry_consensus, good_lose_broadcast, good_lose_consensus, good_crash, good_suspect, good_propose, good_take, crash_both, suspect_both}
 
 posts_same : (v w : BroadcastView) → ((m : ℕ) → w.poster m ≡ v.poster m) → posts w ≤ posts v
@@ -54,20 +58,20 @@ pub record Fits {X Y : Type 0} (b : Broadcasts X) (c : Consensuses Y) (n : ℕ) 
 
 module _ {X Y : Type 0} (b : Broadcasts X) (c : Consensuses Y) (M : Means b c) (n : ℕ) where
   -- What a call answers and leaves is what the tally says of it.
-  abbrev Tells : Tally → Tally → ℕ → Carrying b c → Type 0
-  Tells t t' answer next = Fits b c n (cond (eqb answer 0) t' t) next
+  abbrev Tells : Tally → Tally → Result Unit Refusal → Carrying b c → Type 0
+  Tells t t' answer next = Fits b c n (cond (is_ok answer) t' t) next
 
   module _ (t : Tally) (s : Carrying b c) (F : Fits b c n t s) where
     G : Good b c s
     G = F.good
 
     -- A call that changes broadcast, consensus and count where it is accepted.
-    by_answer : (k : ℕ) (t' : Tally) (x : b.State) (y : c.State) (m : ℕ) → (k ≡ 0 → Fits b c n t' (moved b c s x y m))
-        → Fits b c n (cond (eqb k 0) t' t) (moved b c s (cond (eqb k 0) x s.broadcast) (cond (eqb k 0) y s.consensus) (cond (eqb k 0) m s.steps))
-    by_answer k t' x y m h = go (eqb k 0) refl
+    by_answer : (k : Result Unit Refusal) (t' : Tally) (x : b.State) (y : c.State) (m : ℕ) → (k ≡ Ok tt → Fits b c n t' (moved b c s x y m))
+        → Fits b c n (cond (is_ok k) t' t) (moved b c s (cond (is_ok k) x s.broadcast) (cond (is_ok k) y s.consensus) (cond (is_ok k) m s.steps))
+    by_answer k t' x y m h = go (is_ok k) refl
       where
-        go : (e : Bool) → eqb k 0 ≡ e → Fits b c n (cond e t' t) (moved b c s (cond e x s.broadcast) (cond e y s.consensus) (cond e m s.steps))
-        go true e = h (eqb-true k 0 e)
+        go : (e : Bool) → is_ok k ≡ e → Fits b c n (cond e t' t) (moved b c s (cond e x s.broadcast) (cond e y s.consensus) (cond e m s.steps))
+        go true e = h (is_accepted k e)
         go false e = F
 
     same_cond : {A : Type 0} (e : Bool) (x : A) → x ≡ cond e x x
@@ -91,26 +95,26 @@ module _ {X Y : Type 0} (b : Broadcasts X) (c : Consensuses Y) (M : Means b c) (
     fits_carry : (w : Wire) (i : ℕ) → Tells t (with_steps 1 t) (carrying b c s w i).answer (carrying b c s w i).next
     fits_carry Broadcast i =
         let k = carry_answer (shown b s.broadcast).net i in
-        subst (λ y. Tells t (with_steps 1 t) k (moved b c s (cond (eqb k 0) (b.carrying s.broadcast i) s.broadcast) y (counted b c s k))) (sym (same_cond (eqb k 0) s.consensus))
+        subst (λ y. Tells t (with_steps 1 t) k (moved b c s (cond (is_ok k) (b.carrying s.broadcast i) s.broadcast) y (counted b c s k))) (sym (same_cond (is_ok k) s.consensus))
         (by_answer k (with_steps 1 t) (b.carrying s.broadcast i) s.consensus (one_more s.steps) (λ e.
         let P = M.broadcast.carry_means s.broadcast i G.broadcast_made e in
         told_same _ (good_carry_broadcast b c M s G i e) P.net.same_cards.cards P.posters_stay P.net.same_cards.crashed P.net.same_cards.suspects refl))
     fits_carry Consensus i =
         let k = carry_answer (told c s.consensus).net i in
-        subst (λ x. Tells t (with_steps 1 t) k (moved b c s x (cond (eqb k 0) (c.carrying s.consensus i) s.consensus) (counted b c s k))) (sym (same_cond (eqb k 0) s.broadcast))
+        subst (λ x. Tells t (with_steps 1 t) k (moved b c s x (cond (is_ok k) (c.carrying s.consensus i) s.consensus) (counted b c s k))) (sym (same_cond (is_ok k) s.broadcast))
         (by_answer k (with_steps 1 t) s.broadcast (c.carrying s.consensus i) (one_more s.steps) (λ e.
         told_same _ (good_carry_consensus b c M s G i e) refl (λ _. refl) (λ _. refl) (λ _ _. refl) refl))
 
     fits_lose : (w : Wire) (i : ℕ) → Tells t (with_steps 1 t) (losing b c s w i).answer (losing b c s w i).next
     fits_lose Broadcast i =
         let k = lose_answer (shown b s.broadcast).net i in
-        subst (λ y. Tells t (with_steps 1 t) k (moved b c s (cond (eqb k 0) (b.losing s.broadcast i) s.broadcast) y (counted b c s k))) (sym (same_cond (eqb k 0) s.consensus))
+        subst (λ y. Tells t (with_steps 1 t) k (moved b c s (cond (is_ok k) (b.losing s.broadcast i) s.broadcast) y (counted b c s k))) (sym (same_cond (is_ok k) s.consensus))
         (by_answer k (with_steps 1 t) (b.losing s.broadcast i) s.consensus (one_more s.steps) (λ e.
         let P = M.broadcast.lose_means s.broadcast i G.broadcast_made e in
         told_same _ (good_lose_broadcast b c M s G i e) P.net.same_cards.cards P.posters_stay P.net.same_cards.crashed P.net.same_cards.suspects refl))
     fits_lose Consensus i =
         let k = lose_answer (told c s.consensus).net i in
-        subst (λ x. Tells t (with_steps 1 t) k (moved b c s x (cond (eqb k 0) (c.losing s.consensus i) s.consensus) (counted b c s k))) (sym (same_cond (eqb k 0) s.broadcast))
+        subst (λ x. Tells t (with_steps 1 t) k (moved b c s x (cond (is_ok k) (c.losing s.consensus i) s.consensus) (counted b c s k))) (sym (same_cond (is_ok k) s.broadcast))
         (by_answer k (with_steps 1 t) s.broadcast (c.losing s.consensus i) (one_more s.steps) (λ e.
         told_same _ (good_lose_consensus b c M s G i e) refl (λ _. refl) (λ _. refl) (λ _ _. refl) refl))
 
@@ -118,13 +122,13 @@ module _ {X Y : Type 0} (b : Broadcasts X) (c : Consensuses Y) (M : Means b c) (
     fits_propose p =
         let k = propose_reply b c s p in
         let y = c.proposing s.consensus (instance_at b c s p) p (waiting b c s p) in
-        subst (λ x. Tells t (with_steps 1 t) k (moved b c s x (cond (eqb k 0) y s.consensus) (counted b c s k))) (sym (same_cond (eqb k 0) s.broadcast))
+        subst (λ x. Tells t (with_steps 1 t) k (moved b c s x (cond (is_ok k) y s.consensus) (counted b c s k))) (sym (same_cond (is_ok k) s.broadcast))
         (by_answer k (with_steps 1 t) s.broadcast y (one_more s.steps) (λ e. told_same _ (good_propose b c M s G p e) refl (λ _. refl) (λ _. refl) (λ _ _. refl) refl))
 
     fits_take : (p : ℕ) → Tells t (with_steps 1 t) (taking b c s p).answer (taking b c s p).next
-    fits_take p = go (eqb (take_reply b c s p) 0) refl
+    fits_take p = go (is_ok (take_reply b c s p)) refl
       where
-        go : (e : Bool) → eqb (take_reply b c s p) 0 ≡ e → Fits b c n (cond e (with_steps 1 t) t) (record {
+        go : (e : Bool) → is_ok (take_reply b c s p) ≡ e → Fits b c n (cond e (with_steps 1 t) t) (record {
           broadcast = s.broadcast;
           consensus = s.consensus;
           order = s.order;
@@ -132,18 +136,18 @@ module _ {X Y : Type 0} (b : Broadcasts X) (c : Consensuses Y) (M : Means b c) (
           instances = cond e (set s.instances p (one_more (instance_at b c s p))) s.instances;
           steps = cond e (one_more s.steps) s.steps;
         })
-        go true e = told_same _ (good_take b c M s G p (eqb-true (take_reply b c s p) 0 e)) refl (λ _. refl) (λ _. refl) (λ _ _. refl) refl
+        go true e = told_same _ (good_take b c M s G p (is_accepted (take_reply b c s p) e)) refl (λ _. refl) (λ _. refl) (λ _ _. refl) refl
         go false e = F
 
-    post_both : (p m : ℕ) → post_reply b c s p m ≡ 0 → (m < length s.order) × (post_answer (shown b s.broadcast) p m ≡ Ok tt)
+    post_both : (p m : ℕ) → post_reply b c s p m ≡ Ok tt → (m < length s.order) × (post_answer (shown b s.broadcast) p m ≡ Ok tt)
     post_both p m e = go (ltb m (length s.order)) refl e
       where
-        never : (x y : Bool) → ◌≡◌ {A = ℕ} (cond x (cond y 2 3) 1) 0 → ⊥
-        never true true h = omega arith
-        never true false h = omega arith
-        never false y h = omega arith
+        never : (x y : Bool) → ◌≡◌ {A = Result Unit Refusal} (cond x (cond y (Err CardCrashed) (Err NoSuchNote)) (Err NoSuchCard)) (Ok tt) → ⊥
+        never true true h = clash (ap is_ok h)
+        never true false h = clash (ap is_ok h)
+        never false y h = clash (ap is_ok h)
 
-        go : (x : Bool) → ltb m (length s.order) ≡ x → cond x (post_answer (shown b s.broadcast) p m) (acting_answer (shown b s.broadcast).net p 3) ≡ Ok tt
+        go : (x : Bool) → ltb m (length s.order) ≡ x → cond x (post_answer (shown b s.broadcast) p m) (acting_answer (shown b s.broadcast).net p (Err NoSuchNote)) ≡ Ok tt
             → (m < length s.order) × (post_answer (shown b s.broadcast) p m ≡ Ok tt)
         go true h z = (ltb-true m (length s.order) h, z)
         go false h z = absurd (never (ltb p (b.cards s.broadcast)) (b.crashed s.broadcast p) z)
@@ -152,8 +156,8 @@ module _ {X Y : Type 0} (b : Broadcasts X) (c : Consensuses Y) (M : Means b c) (
     fits_post p m =
         let k = post_reply b c s p m in
         let x = b.posting s.broadcast p m in
-        subst (λ y. Tells t (with_post p m t) k (moved b c s (cond (eqb k 0) x s.broadcast) y s.steps)) (sym (same_cond (eqb k 0) s.consensus))
-        (subst (λ z. Tells t (with_post p m t) k (moved b c s (cond (eqb k 0) x s.broadcast) (cond (eqb k 0) s.consensus s.consensus) z)) (sym (same_cond (eqb k 0) s.steps))
+        subst (λ y. Tells t (with_post p m t) k (moved b c s (cond (is_ok k) x s.broadcast) y s.steps)) (sym (same_cond (is_ok k) s.consensus))
+        (subst (λ z. Tells t (with_post p m t) k (moved b c s (cond (is_ok k) x s.broadcast) (cond (is_ok k) s.consensus s.consensus) z)) (sym (same_cond (is_ok k) s.steps))
         (by_answer k (with_post p m t) x s.consensus s.steps (λ e.
         let f = post_both p m e in
         let P = M.broadcast.post_means s.broadcast p m G.broadcast_made f.1 in
@@ -171,11 +175,11 @@ module _ {X Y : Type 0} (b : Broadcasts X) (c : Consensuses Y) (M : Means b c) (
     fits_crash p =
         let k = crash_answer (shown b s.broadcast).net p in
         let x = b.crashing s.broadcast p in
-        let y = cond (eqb (crash_answer (told c s.consensus).net p) 0) (c.crashing s.consensus p) s.consensus in
-        subst (λ z. Tells t (with_crash p t) k (moved b c s (cond (eqb k 0) x s.broadcast) (cond (eqb k 0) y s.consensus) z)) (sym (same_cond (eqb k 0) s.steps))
+        let y = cond (is_ok (crash_answer (told c s.consensus).net p)) (c.crashing s.consensus p) s.consensus in
+        subst (λ z. Tells t (with_crash p t) k (moved b c s (cond (is_ok k) x s.broadcast) (cond (is_ok k) y s.consensus) z)) (sym (same_cond (is_ok k) s.steps))
         (by_answer k (with_crash p t) x y s.steps (λ e.
         let P = M.broadcast.crash_means s.broadcast p G.broadcast_made e in
-        let E = cond-true _ (c.crashing s.consensus p) s.consensus (eq-eqb _ 0 (crash_both b c M s G p e)) in
+        let E = cond-true _ (c.crashing s.consensus p) s.consensus (ap is_ok (crash_both b c M s G p e)) in
         subst (λ y. Fits b c n (with_crash p t) (moved b c s x y s.steps)) (sym E) (record {
           good = good_crash b c M s G p e;
           cards = P.net.cards ∙ F.cards;
@@ -190,11 +194,11 @@ module _ {X Y : Type 0} (b : Broadcasts X) (c : Consensuses Y) (M : Means b c) (
     fits_suspect q p =
         let k = suspect_answer (shown b s.broadcast).net q p in
         let x = b.suspecting s.broadcast q p in
-        let y = cond (eqb (suspect_answer (told c s.consensus).net q p) 0) (c.suspecting s.consensus q p) s.consensus in
-        subst (λ z. Tells t (with_suspicion q p t) k (moved b c s (cond (eqb k 0) x s.broadcast) (cond (eqb k 0) y s.consensus) z)) (sym (same_cond (eqb k 0) s.steps))
+        let y = cond (is_ok (suspect_answer (told c s.consensus).net q p)) (c.suspecting s.consensus q p) s.consensus in
+        subst (λ z. Tells t (with_suspicion q p t) k (moved b c s (cond (is_ok k) x s.broadcast) (cond (is_ok k) y s.consensus) z)) (sym (same_cond (is_ok k) s.steps))
         (by_answer k (with_suspicion q p t) x y s.steps (λ e.
         let P = M.broadcast.suspect_means s.broadcast q p G.broadcast_made e in
-        let E = cond-true _ (c.suspecting s.consensus q p) s.consensus (eq-eqb _ 0 (suspect_both b c M s G q p e)) in
+        let E = cond-true _ (c.suspecting s.consensus q p) s.consensus (ap is_ok (suspect_both b c M s G q p e)) in
         subst (λ y. Fits b c n (with_suspicion q p t) (moved b c s x y s.steps)) (sym E) (record {
           good = good_suspect b c M s G q p e;
           cards = P.net.cards ∙ F.cards;
@@ -209,11 +213,11 @@ module _ {X Y : Type 0} (b : Broadcasts X) (c : Consensuses Y) (M : Means b c) (
     steps_bounded = subst (λ x. s.steps ≤ step_bound t.posts x b.bound c.bound) F.cards
         (omega (arith, within_bound (R b c M s G) (LB b c M s G) (LC b c M s G) G.consistent, mul-le-mul_right (b.bound + b.cards s.broadcast * (c.bound + 2)) F.posts))
 
-    accepted : (t' : Tally) (k : ℕ) (s' : Carrying b c) → k ≡ 0 → Tells t t' k s' → Fits b c n t' s'
-    accepted t' k s' e f = subst (λ u. Fits b c n u s') (cond-true (eqb k 0) t' t (eq-eqb k 0 e)) f
+    accepted : (t' : Tally) (k : Result Unit Refusal) (s' : Carrying b c) → k ≡ Ok tt → Tells t t' k s' → Fits b c n t' s'
+    accepted t' k s' e f = subst (λ u. Fits b c n u s') (cond-true (is_ok k) t' t (ap is_ok e)) f
 
-    first_item : (l : List ℕ) → ltb 0 (length l) ≡ true → ◌≡◌ {A = ℕ} (cond (ltb 0 (length l)) 0 6) 0
-    first_item l e = cond-true _ 0 6 e
+    first_item : (l : List ℕ) → ltb 0 (length l) ≡ true → ◌≡◌ {A = Result Unit Refusal} (cond (ltb 0 (length l)) (Ok tt) (Err NoSuchItem)) (Ok tt)
+    first_item l e = cond-true _ _ _ e
 
     no_item : (l : List ℕ) → ltb 0 (length l) ≡ false → eqb (length l) 0 ≡ true
     no_item l e = eq-eqb (length l) 0 (omega (arith, ltb-false 0 (length l) e))
@@ -226,10 +230,10 @@ module _ {X Y : Type 0} (b : Broadcasts X) (c : Consensuses Y) (M : Means b c) (
         four : (x : Option ℕ) → taker b c s ≡ x → (y : Option ℕ) → proposer b c s ≡ y → eqb (length (b.wire s.broadcast)) 0 ≡ true → eqb (length (c.wire s.consensus)) 0 ≡ true
             → Fits b c n (with_steps 1 t) (take_or_propose b c s x y)
         four (Some p) h y k i j =
-            let z = eqb-true (take_reply b c s p) 0 (lowest_some (λ p. eqb (take_reply b c s p) 0) (card_count b c s) p h).1 in
+            let z = is_accepted (take_reply b c s p) (lowest_some (can_take b c s) (card_count b c s) p h).1 in
             accepted (with_steps 1 t) (take_reply b c s p) _ z (fits_take p)
         four None h (Some q) k i j =
-            let z = eqb-true (propose_reply b c s q) 0 (lowest_some (λ p. eqb (propose_reply b c s p) 0) (card_count b c s) q k).1 in
+            let z = is_accepted (propose_reply b c s q) (lowest_some (can_propose b c s) (card_count b c s) q k).1 in
             accepted (with_steps 1 t) (propose_reply b c s q) _ z (fits_propose q)
         four None h None k i j = absurd (both_ways (at_rest b c s) e (and_from _ _ (and_from _ _ i j) (and_from _ _ (ap (λ o. not (is_some o)) h) (ap (λ o. not (is_some o)) k))))
 
@@ -294,16 +298,20 @@ module _ {X Y : Type 0} (b : Broadcasts X) (c : Consensuses Y) (M : Means b c) (
       go true e r = e
       go false e r = let A = fits_advance t s F e in r A (omega (arith, A.steps, F.steps, h))
 
-  fits_call : (t : Tally) (s : Carrying b c) (k : Call) → Fits b c n t s
-      → Fits b c n (cond (eqb (calling b c s k).tells.refusal 0) (with_call k (calling b c s k).tells t) t) (calling b c s k).leaves
+  -- A call other than settle tells whether it is accepted.
+  by_telling : (k : Call) (a : Result Unit Refusal) (t : Tally) (s : Carrying b c) → Tells t (with_call k None t) a s → Fits b c n (with_answer k (told_by a) t) s
+  by_telling k (Ok x) t s F = F
+  by_telling k (Err e) t s F = F
+
+  fits_call : (t : Tally) (s : Carrying b c) (k : Call) → Fits b c n t s → Fits b c n (with_answer k (calling b c s k).tells t) (calling b c s k).leaves
   unfolding calling
-  fits_call t s (Post p m) F = fits_post t s F p m
-  fits_call t s (Carry w i) F = fits_carry t s F w i
-  fits_call t s (Lose w i) F = fits_lose t s F w i
-  fits_call t s (Crash p) F = fits_crash t s F p
-  fits_call t s (Suspect q p) F = fits_suspect t s F q p
-  fits_call t s (Propose p) F = fits_propose t s F p
-  fits_call t s (Take p) F = fits_take t s F p
+  fits_call t s (Post p m) F = by_telling (Post p m) _ t _ (fits_post t s F p m)
+  fits_call t s (Carry w i) F = by_telling (Carry w i) _ t _ (fits_carry t s F w i)
+  fits_call t s (Lose w i) F = by_telling (Lose w i) _ t _ (fits_lose t s F w i)
+  fits_call t s (Crash p) F = by_telling (Crash p) _ t _ (fits_crash t s F p)
+  fits_call t s (Suspect q p) F = by_telling (Suspect q p) _ t _ (fits_suspect t s F q p)
+  fits_call t s (Propose p) F = by_telling (Propose p) _ t _ (fits_propose t s F p)
+  fits_call t s (Take p) F = by_telling (Take p) _ t _ (fits_take t s F p)
   fits_call t s (Settle limit) F = fits_settle limit t s F
 
   pub fits_calls : (calls : List Call) (t : Tally) (s : Carrying b c) → Fits b c n t s → Fits b c n (with_calls t calls (answers_to b c s calls)) (left_by b c s calls)

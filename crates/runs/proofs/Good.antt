@@ -1,5 +1,6 @@
 -- What every run keeps of a carrier, call by call.
-use Rattle.std.proofs.Common.{◌≡◌, ℕ, zero, suc, ◌+◌, ◌^◌, ◌<◌, ◌≤◌, Bool, true, false, cond, not, ◌&&◌, ◌||◌, ltb, leb, List, [], length, get_or, set, replicate, is_some, Some, None, filter, Option, sym, refl, ap, ◌∙◌, add-one, arith, length-set, get_or-set_other, get_or-set_same, Ok}
+use Rattle.std.proofs.Common.{◌≡◌, ℕ, zero, suc, ◌+◌, ◌^◌, ◌<◌, ◌≤◌, Bool, true, false, cond, not, ◌&&◌, ◌||◌, ltb, leb, List, [], length, get_or, set, replicate, is_some, Some, None, filter, Option, sym, refl, ap, ◌∙◌, add-one, arith, length-set, get_or-set_other, get_or-set_same, Ok, Err, Result, is_ok}
+use borrow.Author.Tests.{clash}
 use lib.Bits.{bit_xor, and_le_l}
 use lib.Count.{ones, count_trailing_zeros}
 use Rattle.std.proofs.lemmas.Bool.{ltb-true, lt-ltb, and_parts, not-true, cond_both, cond-true}
@@ -7,6 +8,8 @@ use Rattle.std.proofs.lemmas.Bool.Decides.{nat_tests}
 use Rattle.notes.specs.Sets.{has}
 use Rattle.notes.proofs.Bits.{has_minus, has_none, ones_count, zeros_lowest}
 use Rattle.parts.specs.Views.{Net, BroadcastView, ConsensusView, Runs}
+use Rattle.parts.specs.declared.refusal.Refusal.{Refusal}
+use Rattle.parts.specs.declared.refusal.Refusal.TheVariants.{NoSuchCard, CardCrashed, CardRuns, NothingDecided}
 use Rattle.parts.specs.Nets.{SameCards}
 use Rattle.parts.specs.Refusals.{post_answer, carry_answer, lose_answer, crash_answer, suspect_answer, propose_answer}
 use Rattle.parts.specs.Shown.{shown, told}
@@ -55,12 +58,15 @@ no_instance (suc n) zero = refl
 no_instance (suc n) (suc p) = no_instance n p
 
 crash_same : (v w : Net) (p : ℕ) → SameCards v w → crash_answer w p ≡ crash_answer v p
-crash_same v w p S = ap (λ n. cond (ltb p n) (cond (w.crashed p) 2 0) 1) S.cards ∙ ap (λ t. cond (ltb p v.cards) (cond t 2 0) 1) (S.crashed p)
+crash_same v w p S =
+    ap (λ n. cond (ltb p n) (cond (w.crashed p) (Err CardCrashed) (Ok tt)) (Err NoSuchCard)) S.cards
+    ∙ ap (λ t. cond (ltb p v.cards) (cond t (Err CardCrashed) (Ok tt)) (Err NoSuchCard)) (S.crashed p)
 
 suspect_same : (v w : Net) (q p : ℕ) → SameCards v w → suspect_answer w q p ≡ suspect_answer v q p
-suspect_same v w q p S = ap (λ n. cond (ltb q n && ltb p n) (cond (w.crashed q) 2 (cond (w.crashed p) 0 5)) 1) S.cards
-    ∙ ap (λ t. cond (ltb q v.cards && ltb p v.cards) (cond t 2 (cond (w.crashed p) 0 5)) 1) (S.crashed q)
-    ∙ ap (λ t. cond (ltb q v.cards && ltb p v.cards) (cond (v.crashed q) 2 (cond t 0 5)) 1) (S.crashed p)
+suspect_same v w q p S =
+    ap (λ n. cond (ltb q n && ltb p n) (cond (w.crashed q) (Err CardCrashed) (cond (w.crashed p) (Ok tt) (Err CardRuns))) (Err NoSuchCard)) S.cards
+    ∙ ap (λ t. cond (ltb q v.cards && ltb p v.cards) (cond t (Err CardCrashed) (cond (w.crashed p) (Ok tt) (Err CardRuns))) (Err NoSuchCard)) (S.crashed q)
+    ∙ ap (λ t. cond (ltb q v.cards && ltb p v.cards) (cond (v.crashed q) (Err CardCrashed) (cond t (Ok tt) (Err CardRuns))) (Err NoSuchCard)) (S.crashed p)
 
 module _ {X Y : Type 0} (b : Broadcasts X) (c : Consensuses Y) (M : Means b c) where
   pub good_new : (n : ℕ) (order : List ℕ) → Listed order → Good b c (fresh b c n order)
@@ -196,14 +202,14 @@ module _ {X Y : Type 0} (b : Broadcasts X) (c : Consensuses Y) (M : Means b c) w
         keeps _ _ _ (M.broadcast.suspect_made s.broadcast q p G.broadcast_made e) (M.consensus.suspect_made s.consensus q p G.consensus_made f)
         (suspect q p (M.broadcast.suspect_means s.broadcast q p G.broadcast_made e) (M.consensus.suspect_means s.consensus q p G.consensus_made f))
 
-    pub proposed : (p : ℕ) → propose_reply b c s p ≡ 0 → propose_answer w (instance_at b c s p) p (waiting b c s p) ≡ Ok tt
+    pub proposed : (p : ℕ) → propose_reply b c s p ≡ Ok tt → propose_answer w (instance_at b c s p) p (waiting b c s p) ≡ Ok tt
     proposed p e = go (ltb p (card_count b c s)) e
       where
-        go : (t : Bool) → cond t (propose_answer w (instance_at b c s p) p (waiting b c s p)) 1 ≡ Ok tt → propose_answer w (instance_at b c s p) p (waiting b c s p) ≡ Ok tt
+        go : (t : Bool) → cond t (propose_answer w (instance_at b c s p) p (waiting b c s p)) (Err NoSuchCard) ≡ Ok tt → propose_answer w (instance_at b c s p) p (waiting b c s p) ≡ Ok tt
         go true h = h
-        go false h = absurd (omega arith)
+        go false h = absurd (clash (ap is_ok h))
 
-    pub good_propose : (p : ℕ) → propose_reply b c s p ≡ 0 → Good b c (moved b c s s.broadcast (c.proposing s.consensus (instance_at b c s p) p (waiting b c s p)) (one_more s.steps))
+    pub good_propose : (p : ℕ) → propose_reply b c s p ≡ Ok tt → Good b c (moved b c s s.broadcast (c.proposing s.consensus (instance_at b c s p) p (waiting b c s p)) (one_more s.steps))
     good_propose p e =
         let i = instance_at b c s p in
         let u = waiting b c s p in
@@ -211,17 +217,17 @@ module _ {X Y : Type 0} (b : Broadcasts X) (c : Consensuses Y) (M : Means b c) w
         keeps _ _ _ G.broadcast_made (M.consensus.propose_made s.consensus i p u G.consensus_made (waiting_fits p) f)
         (propose p u (waits p (propose_accepted w i p u f).4) f (M.consensus.propose_means s.consensus i p u G.consensus_made (waiting_fits p) f) tick)
 
-    pub taken_by : (p : ℕ) → take_reply b c s p ≡ 0 → Runs v.net p × (decision_at b c s p ≡ Some (number_in (decision_at b c s p)))
+    pub taken_by : (p : ℕ) → take_reply b c s p ≡ Ok tt → Runs v.net p × (decision_at b c s p ≡ Some (number_in (decision_at b c s p)))
     taken_by p e = go (ltb p (card_count b c s)) refl (b.crashed s.broadcast p) refl (decision_at b c s p) refl e
       where
         go : (t : Bool) → ltb p (card_count b c s) ≡ t → (u : Bool) → b.crashed s.broadcast p ≡ u → (o : Option ℕ) → decision_at b c s p ≡ o
-            → ◌≡◌ {A = ℕ} (cond t (cond u 2 (cond (is_some o) 0 10)) 1) 0 → Runs v.net p × (o ≡ Some (number_in o))
+            → ◌≡◌ {A = Result Unit Refusal} (cond t (cond u (Err CardCrashed) (cond (is_some o) (Ok tt) (Err NothingDecided))) (Err NoSuchCard)) (Ok tt) → Runs v.net p × (o ≡ Some (number_in o))
         go true h false k (Some x) i z = (record { card = omega (arith, ltb-true p (card_count b c s) h, count_is); up = k }, refl)
-        go true h false k None i z = absurd (omega arith)
-        go true h true k o i z = absurd (omega arith)
-        go false h u k o i z = absurd (omega arith)
+        go true h false k None i z = absurd (clash (ap is_ok z))
+        go true h true k o i z = absurd (clash (ap is_ok z))
+        go false h u k o i z = absurd (clash (ap is_ok z))
 
-    pub good_take : (p : ℕ) → take_reply b c s p ≡ 0 → Good b c (record {
+    pub good_take : (p : ℕ) → take_reply b c s p ≡ Ok tt → Good b c (record {
       broadcast = s.broadcast;
       consensus = s.consensus;
       order = s.order;

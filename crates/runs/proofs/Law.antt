@@ -1,10 +1,11 @@
 -- The law over every list of calls.
-use Rattle.std.proofs.Common.{◌≡◌, ℕ, zero, suc, ◌<◌, ◌≤◌, Bool, true, false, cond, not, ◌&&◌, eqb, ltb, List, length, is_some, Some, None, Option, sym, refl, ap, ◌∙◌, arith}
+use Rattle.std.proofs.Common.{◌≡◌, ℕ, zero, suc, ◌<◌, ◌≤◌, Bool, true, false, cond, not, ◌&&◌, eqb, ltb, List, length, is_some, Some, None, Option, sym, refl, ap, ◌∙◌, arith, Ok, Err, is_ok}
 use Rattle.std.proofs.lemmas.List.{nil_from_length}
-use Rattle.std.proofs.lemmas.Bool.{eqb-true, eqb-false, lt-ltb, and_parts, and_from, both_ways, not_from_false, cond-true, cond-false}
+use Rattle.std.proofs.lemmas.Bool.{eqb-true, lt-ltb, and_parts, and_from, both_ways, not_from_false, cond-true, cond-false}
 use Rattle.std.proofs.lemmas.Bool.Decides.{nat_tests}
 use Rattle.notes.specs.Sets.{has}
 use Rattle.notes.proofs.Bits.{has_none}
+use Rattle.parts.specs.declared.refusal.Refusal.TheVariants.{NoSuchCard, CardCrashed, AlreadyProposed, NothingToPropose, NothingDecided}
 use Rattle.parts.specs.Views.{BroadcastView, Runs, FullSuspicion}
 use Rattle.parts.specs.Shown.{shown, told}
 use Rattle.parts.proofs.Options.{some_held, none_held}
@@ -15,7 +16,7 @@ use Rattle.order.specs.Words.{In, among, sum, one_if}
 use Rattle.order.specs.Views.{posts, Rest}
 use Rattle.order.specs.Law as order
 use Rattle.order.proofs.Facts.{one_order}
-use Rattle.total_order.specs.Carrying.{Carrying, fresh, cards_of, card_count, log_at, instance_at, decision_at, waiting, propose_reply, take_reply, taker, proposer, at_rest}
+use Rattle.total_order.specs.Carrying.{Carrying, fresh, cards_of, card_count, log_at, instance_at, decision_at, waiting, can_take, can_propose, taker, proposer, at_rest}
 use Rattle.total_order.specs.declared.call.Call.{Call}
 use Rattle.runs.specs.Runs.{left_by, answers_to}
 use Rattle.runs.specs.Tally.{Tally, nothing, tally}
@@ -55,8 +56,8 @@ module _ {X Y : Type 0} (b : Broadcasts X) (c : Consensuses Y) (M : Means b c) (
 
       no_take : (p : ℕ) → Runs (shown b s.broadcast).net p → (x : Bool) → is_some (decision_at b c s p) ≡ x → is_some (decision_at b c s p) ≡ false
       no_take p r false h = h
-      no_take p r true h = absurd (eqb-false (take_reply b c s p) 0 (lowest_none (λ p. eqb (take_reply b c s p) 0) (card_count b c s) (none_of (taker b c s) calls.0) p (card p r))
-          (cond-true _ _ 1 (lt-ltb p (card_count b c s) (card p r)) ∙ cond-false _ 2 _ r.up ∙ cond-true _ 0 10 h))
+      no_take p r true h = absurd (both_ways (can_take b c s p) (lowest_none (can_take b c s) (card_count b c s) (none_of (taker b c s) calls.0) p (card p r))
+          (ap is_ok (cond-true _ _ (Err NoSuchCard) (lt-ltb p (card_count b c s) (card p r)) ∙ cond-false _ (Err CardCrashed) _ r.up ∙ cond-true _ (Ok tt) (Err NothingDecided) h)))
 
       proposal : (p m : ℕ) → Runs (shown b s.broadcast).net p → In (b.handed s.broadcast p) m → among m (log_at b c s p) ≡ false
           → (x : Bool) → is_some (c.proposal s.consensus (instance_at b c s p) p) ≡ x → is_some (c.proposal s.consensus (instance_at b c s p) p) ≡ true
@@ -67,9 +68,9 @@ module _ {X Y : Type 0} (b : Broadcasts X) (c : Consensuses Y) (M : Means b c) (
           let early = instance_for_waiting b c M s G p m has-m in
           let net = G.consistent.net in
           let there : p < c.cards s.consensus = omega (arith, r.card, net.cards) in
-          absurd (eqb-false (propose_reply b c s p) 0 (lowest_none (λ p. eqb (propose_reply b c s p) 0) (card_count b c s) (none_of (proposer b c s) calls.1) p (card p r))
-          (cond-true _ _ 1 (lt-ltb p (card_count b c s) (card p r)) ∙ cond-true _ _ 1 (lt-ltb p (c.cards s.consensus) there) ∙ cond-false _ 2 _ (net.crashed p ∙ r.up) ∙ cond-false _ 8 _ i
-          ∙ cond-true _ 0 9 (and_from _ _ (lt-ltb (instance_at b c s p) 32 early) (lt-ltb 0 (waiting b c s p) (omega (arith, some))))))
+          absurd (both_ways (can_propose b c s p) (lowest_none (can_propose b c s) (card_count b c s) (none_of (proposer b c s) calls.1) p (card p r))
+          (ap is_ok (cond-true _ _ (Err NoSuchCard) (lt-ltb p (card_count b c s) (card p r)) ∙ cond-true _ _ (Err NoSuchCard) (lt-ltb p (c.cards s.consensus) there) ∙ cond-false _ (Err CardCrashed) _ (net.crashed p ∙ r.up) ∙ cond-false _ (Err AlreadyProposed) _ i
+          ∙ cond-true _ (Ok tt) (Err NothingToPropose) (and_from _ _ (lt-ltb (instance_at b c s p) 32 early) (lt-ltb 0 (waiting b c s p) (omega (arith, some)))))))
 
   runs : (p : ℕ) → Running n t p → Runs (shown b s.broadcast).net p
   runs p u = record { card = omega (arith, u.card, F.cards); up = F.crashed p ∙ u.up }

@@ -3,7 +3,7 @@ use Rattle.std.specs.Prelude.{List, [], ◌∷◌}
 use Rattle.parts.specs.declared.broadcast.Broadcast.{Ghosts as Broadcasts}
 use Rattle.parts.specs.declared.consensus.Consensus.{Ghosts as Consensuses}
 use Rattle.total_order.specs.Carrying.{Carrying}
-use Rattle.total_order.specs.Calls.{Told, calling}
+use Rattle.total_order.specs.Calls.{Answer, calling}
 use Rattle.total_order.specs.declared.call.Call.{Call}
 
 module _ {X Y : Type 0} (b : Broadcasts X) (c : Consensuses Y) where
@@ -11,6 +11,6 @@ module _ {X Y : Type 0} (b : Broadcasts X) (c : Consensuses Y) where
   left_by s [] = s
   left_by s (k ∷ ks) = left_by (calling b c s k).leaves ks
 
-  unfoldable pub answers_to : Carrying b c → List Call → List Told
+  unfoldable pub answers_to : Carrying b c → List Call → List Answer
   answers_to s [] = []
   answers_to s (k ∷ ks) = (calling b c s k).tells ∷ answers_to (calling b c s k).leaves ks

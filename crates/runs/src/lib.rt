@@ -1,13 +1,12 @@
 // Runs: a list of calls on a new carrier. Whatever the broadcast, the consensus and the calls, the cards log the notes in one order.
 #![tactic(auto)]
 
-ghost use Rattle.std.specs.Prelude.{◌≡◌, ℕ, ◌+◌, ◌<◌, ◌≤◌, true, List, [], ◌∷◌, ◌++◌, map, length, IfOk, vec_len, vec_capacity, Decides, OnOk};
+ghost use Rattle.std.specs.Prelude.{◌≡◌, ℕ, ◌+◌, ◌<◌, ◌≤◌, true, List, [], ◌∷◌, ◌++◌, length, IfOk, vec_len, vec_capacity, Decides, OnOk};
 ghost use Rattle.parts.specs.Views.{Quiet};
 ghost use Rattle.parts.specs.Shown.{shown};
 ghost use Rattle.parts.specs.Broadcasting.{UniformAgreement};
 ghost use Rattle.logs.specs.Orders.{in_ranking_order, RankingOrder};
 ghost use Rattle.total_order.specs.Carrying.{fresh, cards_of};
-ghost use Rattle.total_order.specs.Calls.{told_of};
 ghost use Rattle.total_order.specs.Models.{model};
 ghost use Rattle.runs.specs.Runs.{left_by, answers_to};
 ghost use Rattle.runs.specs.Tally.{tally};
@@ -36,9 +35,9 @@ pub fn run<K: Kind, B: Broadcast + Drop, C: Consensus + Drop>(
     calls: &[Call],
 ) -> Result<RunEnd<B, C>, AllocError>
     ensures carrier { IfOk result (λ k. model B.Broadcast C.Consensus k.carrier ≡ left_by B.Broadcast C.Consensus (fresh B.Broadcast C.Consensus (cards_of cards (length book.now)) (in_ranking_order K.Kind.precedes book.now)) calls.now) }
-    ensures answers { IfOk result (λ k. map told_of k.answers.items ≡ answers_to B.Broadcast C.Consensus (fresh B.Broadcast C.Consensus (cards_of cards (length book.now)) (in_ranking_order K.Kind.precedes book.now)) calls.now) }
+    ensures answers { IfOk result (λ k. k.answers.items ≡ answers_to B.Broadcast C.Consensus (fresh B.Broadcast C.Consensus (cards_of cards (length book.now)) (in_ranking_order K.Kind.precedes book.now)) calls.now) }
     ensures made { IfOk result (λ k. B.Broadcast.made (model B.Broadcast C.Consensus k.carrier).broadcast) }
-    ensures order { IfOk result (λ k. OneOrder B.Broadcast C.Consensus (cards_of cards (length book.now)) (tally calls.now (map told_of k.answers.items)) (model B.Broadcast C.Consensus k.carrier)) }
+    ensures order { IfOk result (λ k. OneOrder B.Broadcast C.Consensus (cards_of cards (length book.now)) (tally calls.now k.answers.items) (model B.Broadcast C.Consensus k.carrier)) }
 {
     let mut answers = Vec::with_capacity(heap, calls.len())?;
     let mut carrier = new_carrier::<K, B, C>(heap, cards, book)?;
@@ -64,10 +63,10 @@ pub fn run_uniform<K: Kind, B: Uniform + Drop, C: Consensus + Drop>(
     calls: &[Call],
 ) -> Result<UniformEnd<B, C>, AllocError>
     ensures carrier { IfOk result (λ k. model B.Broadcast C.Consensus k.run.carrier ≡ left_by B.Broadcast C.Consensus (fresh B.Broadcast C.Consensus (cards_of cards (length book.now)) (in_ranking_order K.Kind.precedes book.now)) calls.now) }
-    ensures answers { IfOk result (λ k. map told_of k.run.answers.items ≡ answers_to B.Broadcast C.Consensus (fresh B.Broadcast C.Consensus (cards_of cards (length book.now)) (in_ranking_order K.Kind.precedes book.now)) calls.now) }
-    ensures order { IfOk result (λ k. OneOrder B.Broadcast C.Consensus (cards_of cards (length book.now)) (tally calls.now (map told_of k.run.answers.items)) (model B.Broadcast C.Consensus k.run.carrier)) }
+    ensures answers { IfOk result (λ k. k.run.answers.items ≡ answers_to B.Broadcast C.Consensus (fresh B.Broadcast C.Consensus (cards_of cards (length book.now)) (in_ranking_order K.Kind.precedes book.now)) calls.now) }
+    ensures order { IfOk result (λ k. OneOrder B.Broadcast C.Consensus (cards_of cards (length book.now)) (tally calls.now k.run.answers.items) (model B.Broadcast C.Consensus k.run.carrier)) }
     ensures quiet { IfOk result (λ k. Decides k.quiet (Quiet (shown B.Broadcast (model B.Broadcast C.Consensus k.run.carrier).broadcast).net)) }
-    ensures crashed_logs_begin_running_ones { IfOk result (λ k. CrashedLogsBeginRunningOnes B.Broadcast C.Consensus (cards_of cards (length book.now)) (tally calls.now (map told_of k.run.answers.items)) (model B.Broadcast C.Consensus k.run.carrier)) }
+    ensures crashed_logs_begin_running_ones { IfOk result (λ k. CrashedLogsBeginRunningOnes B.Broadcast C.Consensus (cards_of cards (length book.now)) (tally calls.now k.run.answers.items) (model B.Broadcast C.Consensus k.run.carrier)) }
 {
     let run = run::<K, B, C>(heap, cards, book, calls)?;
     let quiet = run.carrier.is_quiet();
@@ -97,13 +96,14 @@ fn make_calls<B: Broadcast, C: Consensus>(
     requires empty { vec_len answers.old ≡ 0 }
     requires room { length calls.now ≤ vec_capacity answers.old }
     ensures carrier { model B.Broadcast C.Consensus carrier.new ≡ left_by B.Broadcast C.Consensus (model B.Broadcast C.Consensus carrier.old) calls.now }
-    ensures answers { map told_of answers.new.items ≡ answers_to B.Broadcast C.Consensus (model B.Broadcast C.Consensus carrier.old) calls.now }
+    ensures answers { answers.new.items ≡ answers_to B.Broadcast C.Consensus (model B.Broadcast C.Consensus carrier.old) calls.now }
 {
     for call in calls {
         make_call(carrier, *call, answers);
     }
 }
 
+#[tactic(auto, unfolding(crate::specs::Runs::left_by, crate::specs::Runs::answers_to))]
 fn make_call<B: Broadcast, C: Consensus>(
     carrier: &mut Carrier<B, C>,
     call: Call,
@@ -111,7 +111,7 @@ fn make_call<B: Broadcast, C: Consensus>(
 )
     requires { vec_len answers.old < vec_capacity answers.old }
     ensures carrier { model B.Broadcast C.Consensus carrier.new ≡ left_by B.Broadcast C.Consensus (model B.Broadcast C.Consensus carrier.old) (call ∷ []) }
-    ensures answers { map told_of answers.new.items ≡ map told_of answers.old.items ++ answers_to B.Broadcast C.Consensus (model B.Broadcast C.Consensus carrier.old) (call ∷ []) }
+    ensures answers { answers.new.items ≡ answers.old.items ++ answers_to B.Broadcast C.Consensus (model B.Broadcast C.Consensus carrier.old) (call ∷ []) }
     ensures len { vec_len answers.new ≡ vec_len answers.old + 1 }
     ensures capacity { vec_capacity answers.new ≡ vec_capacity answers.old }
 {
@@ -127,9 +127,9 @@ fn order_law<K: Kind, B: Broadcast, C: Consensus>(
 )
     requires ranked { RankingOrder K.Kind.precedes book.now (in_ranking_order K.Kind.precedes book.now) }
     requires carrier { model B.Broadcast C.Consensus end.now.carrier ≡ left_by B.Broadcast C.Consensus (fresh B.Broadcast C.Consensus (cards_of cards (length book.now)) (in_ranking_order K.Kind.precedes book.now)) calls.now }
-    requires answers { map told_of end.now.answers.items ≡ answers_to B.Broadcast C.Consensus (fresh B.Broadcast C.Consensus (cards_of cards (length book.now)) (in_ranking_order K.Kind.precedes book.now)) calls.now }
+    requires answers { end.now.answers.items ≡ answers_to B.Broadcast C.Consensus (fresh B.Broadcast C.Consensus (cards_of cards (length book.now)) (in_ranking_order K.Kind.precedes book.now)) calls.now }
     ensures made { B.Broadcast.made (model B.Broadcast C.Consensus end.now.carrier).broadcast }
-    ensures order { OneOrder B.Broadcast C.Consensus (cards_of cards (length book.now)) (tally calls.now (map told_of end.now.answers.items)) (model B.Broadcast C.Consensus end.now.carrier) }
+    ensures order { OneOrder B.Broadcast C.Consensus (cards_of cards (length book.now)) (tally calls.now end.now.answers.items) (model B.Broadcast C.Consensus end.now.carrier) }
 {}
 
 // At rest under full suspicion the broadcast is quiet, so the question is answered yes, and its promise holds. This, too, does nothing.
@@ -141,8 +141,8 @@ fn crashed_logs_law<K: Kind, B: Uniform, C: Consensus>(
     quiet: bool,
 )
     requires made { B.Broadcast.made (model B.Broadcast C.Consensus end.now.carrier).broadcast }
-    requires order { OneOrder B.Broadcast C.Consensus (cards_of cards (length book.now)) (tally calls.now (map told_of end.now.answers.items)) (model B.Broadcast C.Consensus end.now.carrier) }
+    requires order { OneOrder B.Broadcast C.Consensus (cards_of cards (length book.now)) (tally calls.now end.now.answers.items) (model B.Broadcast C.Consensus end.now.carrier) }
     requires answer { Decides quiet (Quiet (shown B.Broadcast (model B.Broadcast C.Consensus end.now.carrier).broadcast).net) }
     requires agreed { quiet ≡ true → B.Broadcast.made (model B.Broadcast C.Consensus end.now.carrier).broadcast → UniformAgreement (shown B.Broadcast (model B.Broadcast C.Consensus end.now.carrier).broadcast) }
-    ensures { CrashedLogsBeginRunningOnes B.Broadcast C.Consensus (cards_of cards (length book.now)) (tally calls.now (map told_of end.now.answers.items)) (model B.Broadcast C.Consensus end.now.carrier) }
+    ensures { CrashedLogsBeginRunningOnes B.Broadcast C.Consensus (cards_of cards (length book.now)) (tally calls.now end.now.answers.items) (model B.Broadcast C.Consensus end.now.carrier) }
 {}

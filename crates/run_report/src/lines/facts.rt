@@ -1,5 +1,5 @@
 // What the bytes of a line are, from left to right. These functions do nothing: each states a fact that the writing of a line rests on.
-ghost use Rattle.std.specs.Prelude.{◌≡◌, ℕ, [], ◌∷◌, ◌++◌, map, string_bytes, codes, decimal};
+ghost use Rattle.std.specs.Prelude.{◌≡◌, ℕ, [], ◌∷◌, ◌++◌, map, Err, string_bytes, codes, decimal};
 ghost use Rattle.text.specs.Written.{spaced_after};
 ghost use Rattle.parts.specs.Refusals.{number as number_of};
 ghost use Rattle.run_report.specs.Lines.{lines_text, refusal_line, card_word, log_line, rest_word, steps_line};
@@ -7,7 +7,7 @@ ghost use Rattle.run_report.specs.Lines.{lines_text, refusal_line, card_word, lo
 use parts::refusal::Refusal;
 
 pub(super) fn refusal_line_is(event: usize, refusal: Refusal)
-    ensures { lines_text (refusal_line event (number_of refusal)) ≡ codes "no " ++ (decimal event ++ (codes " " ++ (decimal (number_of refusal) ++ codes "\n"))) }
+    ensures { lines_text (refusal_line event (Err refusal)) ≡ codes "no " ++ (decimal event ++ (codes " " ++ (decimal (number_of refusal) ++ codes "\n"))) }
 {}
 
 // It is written in three parts.
