@@ -12,6 +12,7 @@ use Rattle.parts.specs.declared.broadcast.Broadcast.{Ghosts as Broadcasts}
 use Rattle.parts.specs.declared.consensus.Consensus.{Ghosts as Consensuses}
 use Rattle.logs.specs.Orders.{number_in, appended}
 use Rattle.logs.proofs.Lowest.{lowest_some}
+use Rattle.total_order.proofs.Lowest.{found_lowest}
 use Rattle.order.specs.Words.{sum, one_if, step_bound}
 use Rattle.order.specs.Views.{posts}
 use Rattle.order.proofs.Lists.{sum_le}
@@ -230,10 +231,10 @@ module _ {X Y : Type 0} (b : Broadcasts X) (c : Consensuses Y) (M : Means b c) (
         four : (x : Option ℕ) → taker b c s ≡ x → (y : Option ℕ) → proposer b c s ≡ y → eqb (length (b.wire s.broadcast)) 0 ≡ true → eqb (length (c.wire s.consensus)) 0 ≡ true
             → Fits b c n (with_steps 1 t) (take_or_propose b c s x y)
         four (Some p) h y k i j =
-            let z = is_accepted (take_reply b c s p) (lowest_some (can_take b c s) (card_count b c s) p h).1 in
+            let z = is_accepted (take_reply b c s p) (lowest_some (can_take b c s) (card_count b c s) p (sym (found_lowest (can_take b c s) (card_count b c s)) ∙ h)).1 in
             accepted (with_steps 1 t) (take_reply b c s p) _ z (fits_take p)
         four None h (Some q) k i j =
-            let z = is_accepted (propose_reply b c s q) (lowest_some (can_propose b c s) (card_count b c s) q k).1 in
+            let z = is_accepted (propose_reply b c s q) (lowest_some (can_propose b c s) (card_count b c s) q (sym (found_lowest (can_propose b c s) (card_count b c s)) ∙ k)).1 in
             accepted (with_steps 1 t) (propose_reply b c s q) _ z (fits_propose q)
         four None h None k i j = absurd (both_ways (at_rest b c s) e (and_from _ _ (and_from _ _ i j) (and_from _ _ (ap (λ o. not (is_some o)) h) (ap (λ o. not (is_some o)) k))))
 

@@ -12,6 +12,7 @@ use Rattle.parts.proofs.Options.{some_held, none_held}
 use Rattle.parts.specs.declared.broadcast.Broadcast.{Ghosts as Broadcasts}
 use Rattle.parts.specs.declared.consensus.Consensus.{Ghosts as Consensuses}
 use Rattle.logs.proofs.Lowest.{lowest_none}
+use Rattle.total_order.proofs.Lowest.{found_lowest}
 use Rattle.order.specs.Words.{In, among, sum, one_if}
 use Rattle.order.specs.Views.{posts, Rest}
 use Rattle.order.specs.Law as order
@@ -56,7 +57,7 @@ module _ {X Y : Type 0} (b : Broadcasts X) (c : Consensuses Y) (M : Means b c) (
 
       no_take : (p : ℕ) → Runs (shown b s.broadcast).net p → (x : Bool) → is_some (decision_at b c s p) ≡ x → is_some (decision_at b c s p) ≡ false
       no_take p r false h = h
-      no_take p r true h = absurd (both_ways (can_take b c s p) (lowest_none (can_take b c s) (card_count b c s) (none_of (taker b c s) calls.0) p (card p r))
+      no_take p r true h = absurd (both_ways (can_take b c s p) (lowest_none (can_take b c s) (card_count b c s) (sym (found_lowest (can_take b c s) (card_count b c s)) ∙ none_of (taker b c s) calls.0) p (card p r))
           (ap is_ok (cond-true _ _ (Err NoSuchCard) (lt-ltb p (card_count b c s) (card p r)) ∙ cond-false _ (Err CardCrashed) _ r.up ∙ cond-true _ (Ok tt) (Err NothingDecided) h)))
 
       proposal : (p m : ℕ) → Runs (shown b s.broadcast).net p → In (b.handed s.broadcast p) m → among m (log_at b c s p) ≡ false
@@ -68,7 +69,7 @@ module _ {X Y : Type 0} (b : Broadcasts X) (c : Consensuses Y) (M : Means b c) (
           let early = instance_for_waiting b c M s G p m has-m in
           let net = G.consistent.net in
           let there : p < c.cards s.consensus = omega (arith, r.card, net.cards) in
-          absurd (both_ways (can_propose b c s p) (lowest_none (can_propose b c s) (card_count b c s) (none_of (proposer b c s) calls.1) p (card p r))
+          absurd (both_ways (can_propose b c s p) (lowest_none (can_propose b c s) (card_count b c s) (sym (found_lowest (can_propose b c s) (card_count b c s)) ∙ none_of (proposer b c s) calls.1) p (card p r))
           (ap is_ok (cond-true _ _ (Err NoSuchCard) (lt-ltb p (card_count b c s) (card p r)) ∙ cond-true _ _ (Err NoSuchCard) (lt-ltb p (c.cards s.consensus) there) ∙ cond-false _ (Err CardCrashed) _ (net.crashed p ∙ r.up) ∙ cond-false _ (Err AlreadyProposed) _ i
           ∙ cond-true _ (Ok tt) (Err NothingToPropose) (and_from _ _ (lt-ltb (instance_at b c s p) 32 early) (lt-ltb 0 (waiting b c s p) (omega (arith, some)))))))
 

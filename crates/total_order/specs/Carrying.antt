@@ -1,5 +1,6 @@
 -- The carrier over any broadcast and any consensus: what each call answers and makes.
 use Rattle.std.specs.Prelude.{ℕ, zero, suc, ◌+◌, Bool, cond, not, ◌&&◌, List, [], length, replicate, Ok, Err, Result, is_ok, is_some, Some, None, Option, ◌==◌, nat_le, nat_lt, slice_index, slice_index_or, slice_set}
+use Rattle.std.specs.List.{find, range_with_len}
 use Rattle.notes.specs.Sets.{minus}
 use Rattle.parts.specs.declared.refusal.Refusal.{Refusal}
 use Rattle.parts.specs.declared.refusal.Refusal.TheVariants.{NoSuchCard, CardCrashed, NoSuchNote, NothingDecided}
@@ -7,7 +8,7 @@ use Rattle.parts.specs.Refusals.{post_answer, carry_answer, lose_answer, crash_a
 use Rattle.parts.specs.Shown.{shown, told}
 use Rattle.parts.specs.declared.broadcast.Broadcast.{Ghosts as Broadcasts}
 use Rattle.parts.specs.declared.consensus.Consensus.{Ghosts as Consensuses}
-use Rattle.logs.specs.Orders.{lowest_that, number_in, appended, with_all}
+use Rattle.logs.specs.Orders.{number_in, appended, with_all}
 use Rattle.parts.specs.declared.wires.Wire.{Wire}
 use Rattle.parts.specs.declared.wires.Wire.TheVariants.{Broadcast, Consensus}
 
@@ -161,10 +162,10 @@ module _ {X Y : Type 0} (b : Broadcasts X) (c : Consensuses Y) where
 
   -- The lowest card that can take, and that can propose.
   unfoldable pub taker : Carrying b c → Option ℕ
-  taker s = lowest_that (can_take s) (card_count s)
+  taker s = find (can_take s) (range_with_len 0 (card_count s))
 
   unfoldable pub proposer : Carrying b c → Option ℕ
-  proposer s = lowest_that (can_propose s) (card_count s)
+  proposer s = find (can_propose s) (range_with_len 0 (card_count s))
 
   -- At rest: both wires are empty, and at no card would take or propose be accepted.
   unfoldable pub at_rest : Carrying b c → Bool

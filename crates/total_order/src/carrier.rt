@@ -19,7 +19,6 @@ pub struct Carrier<B, C> {
 
 mod calling;
 mod cards;
-mod facts;
 mod making;
 mod moves;
 mod settling;

@@ -11,7 +11,7 @@ use Rattle.total_order.specs.declared.call.Call.{Call}
 use Rattle.runs.specs.Runs.{left_by, answers_to}
 
 abbrev pub refused_by : Answer → ℕ
-refused_by (Ok done) = 0
+refused_by (Ok _) = 0
 refused_by (Err e) = number e
 
 -- By which number each call was refused, 0 where it was accepted; the log of each card; the steps; and whether the carrier is at rest.

@@ -4,7 +4,6 @@ ghost use Rattle.total_order.specs.Carrying.{taker, proposer, at_rest, take_or_p
 ghost use Rattle.total_order.specs.Models.{model};
 
 use super::Carrier;
-use super::facts::{lowest_proposer, lowest_taker, rest_is, settling_is, step_is};
 use crate::call::{Settling, Wire};
 use parts::broadcast::Broadcast;
 use parts::consensus::Consensus;
@@ -25,58 +24,42 @@ impl<B: Broadcast, C: Consensus> Carrier<B, C> {
     }
 
     // Whether both wires are empty, and at no card take or propose would be accepted.
+    #[tactic(auto, unfolding(crate::specs::Carrying::at_rest))]
     pub fn is_at_rest(&self) -> bool
         ensures { result ≡ at_rest B.Broadcast C.Consensus (model B.Broadcast C.Consensus self.now) }
     {
-        rest_is(self);
         let no_item = (self.wire_len(Wire::Broadcast) == 0) & (self.wire_len(Wire::Consensus) == 0);
         no_item & (self.taker().is_none() & self.proposer().is_none())
     }
 
     // The steps that were made.
+    #[tactic(auto, using(crate::proofs::Settles::settled_further, crate::proofs::Settles::steps_further, crate::proofs::Settles::settled_at_rest, crate::proofs::Settles::steps_at_rest, crate::proofs::Settles::settled_in_full, crate::proofs::Settles::steps_in_full))]
     fn advance_towards_rest(&mut self, limit: usize) -> usize
         ensures steps { result ≡ settle_steps B.Broadcast C.Consensus limit (model B.Broadcast C.Consensus self.old) }
         ensures after { model B.Broadcast C.Consensus self.new ≡ settled B.Broadcast C.Consensus limit (model B.Broadcast C.Consensus self.old) }
     {
-        let mut left = limit;
-        while self.goes_on(left) {
-            left -= 1;
+        for made in 0..limit {
+            if self.is_at_rest() {
+                return made;
+            }
+            self.advance();
         }
-        limit - left
-    }
-
-    // Makes one of the steps that are left, if there is one and the carrier is not at rest; whether it made it.
-    fn goes_on(&mut self, left: usize) -> bool
-        ensures some { result ≡ true → 0 < left }
-        ensures leaves { settled B.Broadcast C.Consensus left (model B.Broadcast C.Consensus self.old) ≡ (if result then settled B.Broadcast C.Consensus (left - 1) (model B.Broadcast C.Consensus self.new) else model B.Broadcast C.Consensus self.new) }
-        ensures steps { settle_steps B.Broadcast C.Consensus left (model B.Broadcast C.Consensus self.old) ≡ (if result then settle_steps B.Broadcast C.Consensus (left - 1) (model B.Broadcast C.Consensus self.new) + 1 else 0) }
-    {
-        settling_is(self, left);
-        if left == 0 || self.is_at_rest() {
-            return false;
-        }
-        self.advance();
-        true
+        limit
     }
 
     // The first possible step.
+    #[tactic(auto, unfolding(crate::specs::Carrying::advanced))]
     fn advance(&mut self)
         ensures { model B.Broadcast C.Consensus self.new ≡ advanced B.Broadcast C.Consensus (model B.Broadcast C.Consensus self.old) }
     {
-        step_is(self);
         if self.wire_len(Wire::Broadcast) > 0 {
             let _ = self.carry(Wire::Broadcast, 0);
-            return;
-        }
-        if self.wire_len(Wire::Consensus) > 0 {
+        } else if self.wire_len(Wire::Consensus) > 0 {
             let _ = self.carry(Wire::Consensus, 0);
-            return;
-        }
-        match self.taker() {
-            Some(card) => {
-                let _ = self.take(card);
-            }
-            None => self.propose_at_the_lowest(),
+        } else if let Some(card) = self.taker() {
+            let _ = self.take(card);
+        } else {
+            self.propose_at_the_lowest();
         }
     }
 
@@ -84,39 +67,24 @@ impl<B: Broadcast, C: Consensus> Carrier<B, C> {
     fn propose_at_the_lowest(&mut self)
         ensures { model B.Broadcast C.Consensus self.new ≡ take_or_propose B.Broadcast C.Consensus (model B.Broadcast C.Consensus self.old) None (proposer B.Broadcast C.Consensus (model B.Broadcast C.Consensus self.old)) }
     {
-        match self.proposer() {
-            Some(card) => {
-                let _ = self.propose(card);
-            }
-            None => {}
+        if let Some(card) = self.proposer() {
+            let _ = self.propose(card);
         }
     }
 
     // The lowest card that can take.
+    #[tactic(auto, unfolding(crate::specs::Carrying::taker))]
     fn taker(&self) -> Option<usize>
         ensures { result ≡ taker B.Broadcast C.Consensus (model B.Broadcast C.Consensus self.now) }
     {
-        let cards = self.card_count();
-        for card in 0..cards {
-            lowest_taker(self, card);
-            if self.can_take(card) {
-                return Some(card);
-            }
-        }
-        None
+        (0..self.card_count()).find(|card| self.can_take(*card))
     }
 
     // The lowest card that can propose.
+    #[tactic(auto, unfolding(crate::specs::Carrying::proposer))]
     fn proposer(&self) -> Option<usize>
         ensures { result ≡ proposer B.Broadcast C.Consensus (model B.Broadcast C.Consensus self.now) }
     {
-        let cards = self.card_count();
-        for card in 0..cards {
-            lowest_proposer(self, card);
-            if self.can_propose(card) {
-                return Some(card);
-            }
-        }
-        None
+        (0..self.card_count()).find(|card| self.can_propose(*card))
     }
 }
