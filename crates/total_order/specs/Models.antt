@@ -5,13 +5,14 @@ use Rattle.parts.specs.declared.consensus.Consensus.{Ghosts as Consensuses}
 use Rattle.logs.specs.Models.{list_of, order_of}
 use Rattle.total_order.specs.Carrying.{Carrying}
 use Rattle.total_order.specs.declared.carrier.Carrier.{Carrier}
+use Rattle.total_order.specs.declared.carrier.Progress.{Progress}
 
 abbrev pub model : {X Y : Type 0} (b : Broadcasts X) (c : Consensuses Y) → Carrier X Y → Carrying b c
 model b c k = record {
   broadcast = b.state k.broadcast;
   consensus = c.state k.consensus;
   order = order_of k.ranking;
-  logs = map list_of k.logs;
-  instances = k.instances;
+  logs = map (λ (p : Progress). list_of p.log) k.cards;
+  instances = map (λ (p : Progress). p.instance) k.cards;
   steps = k.steps;
 }

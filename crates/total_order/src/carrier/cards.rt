@@ -5,15 +5,12 @@ ghost use Rattle.notes.specs.Models.{bits};
 ghost use Rattle.parts.specs.Views.{Quiet};
 ghost use Rattle.parts.specs.Shown.{shown};
 ghost use Rattle.parts.specs.Broadcasting.{UniformAgreement};
-ghost use Rattle.notes.specs.Sets.{minus};
 ghost use Rattle.logs.specs.Orders.{number_in, with_all};
-ghost use Rattle.logs.specs.Models.{list_of};
 ghost use Rattle.total_order.specs.Carrying.{card_count, wire_on, log_at, instance_at, decision_at, waiting, propose_reply, take_reply, can_take, can_propose};
 ghost use Rattle.total_order.specs.Models.{model};
 
 use super::Carrier;
 use crate::call::Wire;
-use logs::log::Log;
 use notes::set::NoteSet;
 use parts::broadcast::Broadcast;
 use parts::consensus::Consensus;
@@ -41,18 +38,17 @@ impl<B: Broadcast, C: Consensus> Carrier<B, C> {
     pub fn log(&self, card: usize) -> &[usize]
         ensures { result.now ≡ log_at B.Broadcast C.Consensus (model B.Broadcast C.Consensus self.now) card }
     {
-        if card < 6 {
-            return self.log_at(card).as_slice();
+        match self.cards.get(card) {
+            Some(progress) => progress.log.as_slice(),
+            None => &[],
         }
-        self.no_log_beyond(card);
-        &[]
     }
 
     // The instance that a card has come to.
     pub fn instance(&self, card: usize) -> usize
         ensures { result ≡ instance_at B.Broadcast C.Consensus (model B.Broadcast C.Consensus self.now) card }
     {
-        if card < 6 { self.instances[card] } else { 0 }
+        self.cards.get(card).map_or(0, |progress| progress.instance)
     }
 
     // The steps since it was new.
@@ -87,14 +83,21 @@ impl<B: Broadcast, C: Consensus> Carrier<B, C> {
     }
 
     // The notes handed to a card that are not in its log.
+    #[tactic(auto, unfolding(crate::specs::Carrying::waiting))]
     pub(crate) fn waiting(&self, card: usize) -> NoteSet
-        requires { card < 6 }
         ensures { bits result ≡ waiting B.Broadcast C.Consensus (model B.Broadcast C.Consensus self.now) card }
     {
-        self.waiting_is(card);
-        self.broadcast
-            .handed_to(card)
-            .without(self.log_at(card).notes())
+        self.broadcast.handed_to(card).without(self.notes_of(card))
+    }
+
+    // The notes of a card's log.
+    fn notes_of(&self, card: usize) -> NoteSet
+        ensures { bits result ≡ with_all 0 (log_at B.Broadcast C.Consensus (model B.Broadcast C.Consensus self.now) card) }
+    {
+        match self.cards.get(card) {
+            Some(progress) => progress.log.notes(),
+            None => NoteSet::empty(),
+        }
     }
 
     // Why propose would be refused, if it would.
@@ -132,23 +135,6 @@ impl<B: Broadcast, C: Consensus> Carrier<B, C> {
             .decision_of(self.instance(card), card)
             .ok_or(Refusal::NothingDecided)
     }
-
-    // The log of one of six cards.
-    fn log_at(&self, card: usize) -> &Log
-        requires { card < 6 }
-        ensures { list_of result.now ≡ log_at B.Broadcast C.Consensus (model B.Broadcast C.Consensus self.now) card }
-    {
-        &self.logs[card]
-    }
-
-    // Two facts, and nothing to do.
-    fn no_log_beyond(&self, card: usize)
-        ensures { 6 ≤ card → log_at B.Broadcast C.Consensus (model B.Broadcast C.Consensus self.now) card ≡ [] }
-    {}
-
-    fn waiting_is(&self, card: usize)
-        ensures { waiting B.Broadcast C.Consensus (model B.Broadcast C.Consensus self.now) card ≡ minus (B.Broadcast.handed (model B.Broadcast C.Consensus self.now).broadcast card) (with_all 0 (log_at B.Broadcast C.Consensus (model B.Broadcast C.Consensus self.now) card)) }
-    {}
 }
 
 impl<B: Uniform, C: Consensus> Carrier<B, C> {

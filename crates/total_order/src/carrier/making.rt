@@ -4,7 +4,7 @@ ghost use Rattle.total_order.specs.Carrying.{with_parts, fresh, cards_of};
 ghost use Rattle.logs.specs.Models.{order_of};
 ghost use Rattle.total_order.specs.Models.{model};
 
-use super::Carrier;
+use super::{Carrier, Progress};
 use logs::log::Log;
 use logs::ranking::Ranking;
 use notes::kind::Kind;
@@ -33,8 +33,10 @@ impl<B: Broadcast, C: Consensus> Carrier<B, C> {
             broadcast,
             consensus,
             ranking,
-            logs: [Log::new(); 6],
-            instances: [0; 6],
+            cards: [Progress {
+                log: Log::new(),
+                instance: 0,
+            }; 6],
             steps: 0,
         }
     }

@@ -3,12 +3,14 @@ ghost use Rattle.std.specs.Prelude.{◌≡◌, ℕ, ◌<◌, length, nat_lt, sli
 ghost use Rattle.notes.specs.Models.{bits};
 ghost use Rattle.parts.specs.Refusals.{propose_answer};
 ghost use Rattle.parts.specs.Shown.{told};
+ghost use Rattle.logs.specs.Models.{list_of, order_of};
 ghost use Rattle.logs.specs.Orders.{appended};
 ghost use Rattle.total_order.specs.Carrying.{one_more, if_accepted, moved, counted, log_at, instance_at, waiting, propose_reply, posting, carrying, losing, crashing, suspecting, proposing, taking};
 ghost use Rattle.total_order.specs.Models.{model};
 
-use super::Carrier;
+use super::{Carrier, Progress};
 use crate::call::Wire;
+use logs::ranking::Ranking;
 use notes::set::NoteSet;
 use parts::broadcast::Broadcast;
 use parts::consensus::Consensus;
@@ -91,8 +93,7 @@ impl<B: Broadcast, C: Consensus> Carrier<B, C> {
         ensures after { model B.Broadcast C.Consensus self.new ≡ (taking B.Broadcast C.Consensus (model B.Broadcast C.Consensus self.old) card).next }
     {
         let decided = self.decision(card)?;
-        self.append(card, decided);
-        self.instances[card] = one_more(self.instances[card]);
+        self.go_on(card, decided);
         self.count_step();
         Ok(())
     }
@@ -147,19 +148,27 @@ impl<B: Broadcast, C: Consensus> Carrier<B, C> {
         self.consensus.propose(instance, card, waiting)
     }
 
-    // Puts a batch behind the log of a card.
-    fn append(&mut self, card: usize, decided: NoteSet)
+    // Puts a batch behind the log of a card, which comes to its next instance.
+    fn go_on(&mut self, card: usize, decided: NoteSet)
         requires { card < 6 }
         ensures broadcast { (model B.Broadcast C.Consensus self.new).broadcast ≡ (model B.Broadcast C.Consensus self.old).broadcast }
         ensures consensus { (model B.Broadcast C.Consensus self.new).consensus ≡ (model B.Broadcast C.Consensus self.old).consensus }
         ensures order { (model B.Broadcast C.Consensus self.new).order ≡ (model B.Broadcast C.Consensus self.old).order }
         ensures log { (model B.Broadcast C.Consensus self.new).logs ≡ slice_set (model B.Broadcast C.Consensus self.old).logs card (appended (model B.Broadcast C.Consensus self.old).order (log_at B.Broadcast C.Consensus (model B.Broadcast C.Consensus self.old) card) (bits decided)) }
-        ensures instances { (model B.Broadcast C.Consensus self.new).instances ≡ (model B.Broadcast C.Consensus self.old).instances }
+        ensures instances { (model B.Broadcast C.Consensus self.new).instances ≡ slice_set (model B.Broadcast C.Consensus self.old).instances card (one_more (instance_at B.Broadcast C.Consensus (model B.Broadcast C.Consensus self.old) card)) }
         ensures steps { (model B.Broadcast C.Consensus self.new).steps ≡ (model B.Broadcast C.Consensus self.old).steps }
     {
-        let mut log = self.logs[card];
-        log.append(&self.ranking, decided);
-        self.logs[card] = log;
+        self.cards[card].go_on(&self.ranking, decided);
+    }
+}
+
+impl Progress {
+    fn go_on(&mut self, ranking: &Ranking, decided: NoteSet)
+        ensures log { list_of self.new.log ≡ appended (order_of ranking.now) (list_of self.old.log) (bits decided) }
+        ensures instance { self.new.instance ≡ one_more self.old.instance }
+    {
+        self.log.append(ranking, decided);
+        self.instance = one_more(self.instance);
     }
 }
 
