@@ -39,11 +39,12 @@ impl<B: Broadcast, C: Consensus> Carrier<B, C> {
         ensures answer { result ≡ (carrying B.Broadcast C.Consensus (model B.Broadcast C.Consensus self.old) wire item).answer }
         ensures after { model B.Broadcast C.Consensus self.new ≡ (carrying B.Broadcast C.Consensus (model B.Broadcast C.Consensus self.old) wire item).next }
     {
-        let answer = match wire {
-            Wire::Broadcast => self.broadcast.carry(item),
-            Wire::Consensus => self.consensus.carry(item),
-        };
-        self.count_if_accepted(answer)
+        match wire {
+            Wire::Broadcast => self.broadcast.carry(item)?,
+            Wire::Consensus => self.consensus.carry(item)?,
+        }
+        self.count_step();
+        Ok(())
     }
 
     // An item of a wire, from a crashed sender, is lost.
@@ -51,11 +52,12 @@ impl<B: Broadcast, C: Consensus> Carrier<B, C> {
         ensures answer { result ≡ (losing B.Broadcast C.Consensus (model B.Broadcast C.Consensus self.old) wire item).answer }
         ensures after { model B.Broadcast C.Consensus self.new ≡ (losing B.Broadcast C.Consensus (model B.Broadcast C.Consensus self.old) wire item).next }
     {
-        let answer = match wire {
-            Wire::Broadcast => self.broadcast.lose(item),
-            Wire::Consensus => self.consensus.lose(item),
-        };
-        self.count_if_accepted(answer)
+        match wire {
+            Wire::Broadcast => self.broadcast.lose(item)?,
+            Wire::Consensus => self.consensus.lose(item)?,
+        }
+        self.count_step();
+        Ok(())
     }
 
     // A card crashes; the broadcast and the consensus are told.
@@ -83,8 +85,9 @@ impl<B: Broadcast, C: Consensus> Carrier<B, C> {
         ensures answer { result ≡ (proposing B.Broadcast C.Consensus (model B.Broadcast C.Consensus self.old) card).answer }
         ensures after { model B.Broadcast C.Consensus self.new ≡ (proposing B.Broadcast C.Consensus (model B.Broadcast C.Consensus self.old) card).next }
     {
-        let answer = self.propose_waiting(card);
-        self.count_if_accepted(answer)
+        self.propose_waiting(card)?;
+        self.count_step();
+        Ok(())
     }
 
     // A card appends what is decided in its instance to its log, and moves to the next instance.
@@ -96,17 +99,6 @@ impl<B: Broadcast, C: Consensus> Carrier<B, C> {
         self.go_on(card, decided);
         self.count_step();
         Ok(())
-    }
-
-    // Only an accepted call is a step.
-    fn count_if_accepted(&mut self, answer: Result<(), Refusal>) -> Result<(), Refusal>
-        ensures same { result ≡ answer }
-        ensures after { model B.Broadcast C.Consensus self.new ≡ moved B.Broadcast C.Consensus (model B.Broadcast C.Consensus self.old) (model B.Broadcast C.Consensus self.old).broadcast (model B.Broadcast C.Consensus self.old).consensus (counted B.Broadcast C.Consensus (model B.Broadcast C.Consensus self.old) answer) }
-    {
-        if answer.is_ok() {
-            self.count_step();
-        }
-        answer
     }
 
     fn count_step(&mut self)
@@ -132,17 +124,6 @@ impl<B: Broadcast, C: Consensus> Carrier<B, C> {
         if card >= self.card_count() {
             return Err(Refusal::NoSuchCard);
         }
-        self.put_forward(card)
-    }
-
-    // Proposes the waiting notes of a card in its instance.
-    fn put_forward(&mut self, card: usize) -> Result<(), Refusal>
-        requires { card < 6 }
-        ensures answer { result ≡ propose_answer (told C.Consensus (model B.Broadcast C.Consensus self.old).consensus) (instance_at B.Broadcast C.Consensus (model B.Broadcast C.Consensus self.old) card) card (waiting B.Broadcast C.Consensus (model B.Broadcast C.Consensus self.old) card) }
-        ensures after { model B.Broadcast C.Consensus self.new ≡ moved B.Broadcast C.Consensus (model B.Broadcast C.Consensus self.old) (model B.Broadcast C.Consensus self.old).broadcast
-            (if_accepted B.Broadcast C.Consensus result (C.Consensus.proposing (model B.Broadcast C.Consensus self.old).consensus (instance_at B.Broadcast C.Consensus (model B.Broadcast C.Consensus self.old) card) card (waiting B.Broadcast C.Consensus (model B.Broadcast C.Consensus self.old) card)) (model B.Broadcast C.Consensus self.old).consensus)
-            (model B.Broadcast C.Consensus self.old).steps }
-    {
         let instance = self.instance(card);
         let waiting = self.waiting(card);
         self.consensus.propose(instance, card, waiting)
