@@ -21,24 +21,16 @@ impl<B: Broadcast + Drop, C: Consensus + Drop> Carrier<B, C> {
         let count = card_count(cards, book.len());
         let broadcast = B::new(heap, count)?;
         let consensus = C::new(heap, count)?;
-        Ok(Carrier::with_parts(broadcast, consensus, Ranking::new(book)))
-    }
-}
-
-impl<B: Broadcast, C: Consensus> Carrier<B, C> {
-    fn with_parts(broadcast: B, consensus: C, ranking: Ranking) -> Self
-        ensures { model B.Broadcast C.Consensus result ≡ with_parts B.Broadcast C.Consensus (B.Broadcast.state broadcast) (C.Consensus.state consensus) (order_of ranking) }
-    {
-        Carrier {
+        Ok(Carrier {
             broadcast,
             consensus,
-            ranking,
+            ranking: Ranking::new(book),
             cards: [Progress {
                 log: Log::new(),
                 instance: 0,
             }; 6],
             steps: 0,
-        }
+        })
     }
 }
 

@@ -58,16 +58,7 @@ impl<B: Broadcast, C: Consensus> Carrier<B, C> {
             let _ = self.carry(Wire::Consensus, 0);
         } else if let Some(card) = self.taker() {
             let _ = self.take(card);
-        } else {
-            self.propose_at_the_lowest();
-        }
-    }
-
-    // Proposes at the lowest card that can.
-    fn propose_at_the_lowest(&mut self)
-        ensures { model B.Broadcast C.Consensus self.new ≡ take_or_propose B.Broadcast C.Consensus (model B.Broadcast C.Consensus self.old) None (proposer B.Broadcast C.Consensus (model B.Broadcast C.Consensus self.old)) }
-    {
-        if let Some(card) = self.proposer() {
+        } else if let Some(card) = self.proposer() {
             let _ = self.propose(card);
         }
     }
