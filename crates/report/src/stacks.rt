@@ -13,37 +13,25 @@ use parts::consensus::Consensus;
 use register::state::Register;
 use relay::state::Relay;
 use run_report::{report_over, report_over_uniform};
+use runs::Script;
 use schedule::contents::{BroadcastPart, ConsensusPart, Pile};
 use std::alloc::{AllocError, Global};
-use total_order::call::Call;
 
 // The broadcast that the pile names, under the in-turn layer or alone, with this consensus.
 fn report_with<K: Kind, C: Consensus + Drop>(
     heap: Global,
     pile: Pile,
-    cards: usize,
-    book: &[K],
-    calls: &[Call],
+    script: &Script<'_, K>,
 ) -> Result<String, AllocError>
-    ensures { IfOk result (λ out. string_bytes out ≡ over_broadcast (cards_of cards (length book.now)) (in_ranking_order K.Kind.precedes book.now) calls.now C.Consensus pile.in_turn pile.broadcast) }
+    ensures { IfOk result (λ out. string_bytes out ≡ over_broadcast (cards_of script.now.cards (length script.now.book.now)) (in_ranking_order K.Kind.precedes script.now.book.now) script.now.calls.now C.Consensus pile.in_turn pile.broadcast) }
 {
     match (pile.in_turn, pile.broadcast) {
-        (false, BroadcastPart::Relay) => report_over::<K, Relay, C>(heap, cards, book, calls),
-        (false, BroadcastPart::AllAck) => report_over_uniform::<K, AllAck, C>(
-            heap, cards, book, calls,
-        ),
-        (false, BroadcastPart::Board) => report_over_uniform::<K, Board, C>(
-            heap, cards, book, calls,
-        ),
-        (true, BroadcastPart::Relay) => report_over::<K, InTurn<Relay>, C>(
-            heap, cards, book, calls,
-        ),
-        (true, BroadcastPart::AllAck) => report_over_uniform::<K, InTurn<AllAck>, C>(
-            heap, cards, book, calls,
-        ),
-        (true, BroadcastPart::Board) => report_over_uniform::<K, InTurn<Board>, C>(
-            heap, cards, book, calls,
-        ),
+        (false, BroadcastPart::Relay) => report_over::<K, Relay, C>(heap, script),
+        (false, BroadcastPart::AllAck) => report_over_uniform::<K, AllAck, C>(heap, script),
+        (false, BroadcastPart::Board) => report_over_uniform::<K, Board, C>(heap, script),
+        (true, BroadcastPart::Relay) => report_over::<K, InTurn<Relay>, C>(heap, script),
+        (true, BroadcastPart::AllAck) => report_over_uniform::<K, InTurn<AllAck>, C>(heap, script),
+        (true, BroadcastPart::Board) => report_over_uniform::<K, InTurn<Board>, C>(heap, script),
     }
 }
 
@@ -51,14 +39,12 @@ fn report_with<K: Kind, C: Consensus + Drop>(
 pub(crate) fn report_on<K: Kind>(
     heap: Global,
     pile: Pile,
-    cards: usize,
-    book: &[K],
-    calls: &[Call],
+    script: &Script<'_, K>,
 ) -> Result<String, AllocError>
-    ensures { IfOk result (λ out. string_bytes out ≡ over_pile (cards_of cards (length book.now)) (in_ranking_order K.Kind.precedes book.now) calls.now pile) }
+    ensures { IfOk result (λ out. string_bytes out ≡ over_pile (cards_of script.now.cards (length script.now.book.now)) (in_ranking_order K.Kind.precedes script.now.book.now) script.now.calls.now pile) }
 {
     match pile.consensus {
-        ConsensusPart::Register => report_with::<K, Register>(heap, pile, cards, book, calls),
-        ConsensusPart::Flood => report_with::<K, Flooding>(heap, pile, cards, book, calls),
+        ConsensusPart::Register => report_with::<K, Register>(heap, pile, script),
+        ConsensusPart::Flood => report_with::<K, Flooding>(heap, pile, script),
     }
 }

@@ -12,37 +12,33 @@ use notes::kind::Kind;
 use parts::broadcast::Broadcast;
 use parts::consensus::Consensus;
 use parts::uniform::Uniform;
-use runs::{RunEnd, UniformEnd, run, run_uniform};
+use runs::{RunEnd, Script, UniformEnd, run, run_uniform};
 use std::alloc::{AllocError, Global};
-use total_order::call::{Answer, Call};
+use total_order::call::Answer;
 use total_order::carrier::Carrier;
 
 mod end;
 mod lines;
 
-// The report of these calls, made on a new carrier with so many cards and this book.
+// The report of a script.
 pub fn report_over<K: Kind, B: Broadcast + Drop, C: Consensus + Drop>(
     heap: Global,
-    cards: usize,
-    book: &[K],
-    calls: &[Call],
+    script: &Script<'_, K>,
 ) -> Result<String, AllocError>
-    ensures { IfOk result (λ out. string_bytes out ≡ report_over B.Broadcast C.Consensus (cards_of cards (length book.now)) (in_ranking_order K.Kind.precedes book.now) calls.now) }
+    ensures { IfOk result (λ out. string_bytes out ≡ report_over B.Broadcast C.Consensus (cards_of script.now.cards (length script.now.book.now)) (in_ranking_order K.Kind.precedes script.now.book.now) script.now.calls.now) }
 {
-    let end: RunEnd<B, C> = run::<K, B, C>(heap, cards, book, calls)?;
+    let end: RunEnd<B, C> = run::<K, B, C>(heap, script)?;
     report_of(heap, &end.carrier, end.answers.as_slice())
 }
 
 // The same over a uniform broadcast, by the run that promises more of it.
 pub fn report_over_uniform<K: Kind, B: Uniform + Drop, C: Consensus + Drop>(
     heap: Global,
-    cards: usize,
-    book: &[K],
-    calls: &[Call],
+    script: &Script<'_, K>,
 ) -> Result<String, AllocError>
-    ensures { IfOk result (λ out. string_bytes out ≡ report_over B.Broadcast C.Consensus (cards_of cards (length book.now)) (in_ranking_order K.Kind.precedes book.now) calls.now) }
+    ensures { IfOk result (λ out. string_bytes out ≡ report_over B.Broadcast C.Consensus (cards_of script.now.cards (length script.now.book.now)) (in_ranking_order K.Kind.precedes script.now.book.now) script.now.calls.now) }
 {
-    let end: UniformEnd<B, C> = run_uniform::<K, B, C>(heap, cards, book, calls)?;
+    let end: UniformEnd<B, C> = run_uniform::<K, B, C>(heap, script)?;
     report_of(heap, &end.run.carrier, end.run.answers.as_slice())
 }
 

@@ -20,6 +20,14 @@ use std::alloc::{AllocError, Global};
 use total_order::call::{Answer, Call};
 use total_order::carrier::Carrier;
 
+// What to run: how many cards the carrier has, its book of notes, and the calls on it.
+#[derive(Drop)]
+pub struct Script<'a, K> {
+    pub cards: usize,
+    pub book: &'a [K],
+    pub calls: &'a [Call],
+}
+
 // The carrier that the calls leave, and what each of them answered.
 #[derive(Drop)]
 pub struct RunEnd<B, C> {
@@ -27,23 +35,21 @@ pub struct RunEnd<B, C> {
     pub answers: Vec<Answer>,
 }
 
-// Makes the calls, one after the other, on a new carrier with so many cards and this book.
+// Makes the calls, one after the other, on a new carrier.
 pub fn run<K: Kind, B: Broadcast + Drop, C: Consensus + Drop>(
     heap: Global,
-    cards: usize,
-    book: &[K],
-    calls: &[Call],
+    script: &Script<'_, K>,
 ) -> Result<RunEnd<B, C>, AllocError>
-    ensures carrier { IfOk result (λ k. model B.Broadcast C.Consensus k.carrier ≡ left_by B.Broadcast C.Consensus (fresh B.Broadcast C.Consensus (cards_of cards (length book.now)) (in_ranking_order K.Kind.precedes book.now)) calls.now) }
-    ensures answers { IfOk result (λ k. k.answers.items ≡ answers_to B.Broadcast C.Consensus (fresh B.Broadcast C.Consensus (cards_of cards (length book.now)) (in_ranking_order K.Kind.precedes book.now)) calls.now) }
+    ensures carrier { IfOk result (λ k. model B.Broadcast C.Consensus k.carrier ≡ left_by B.Broadcast C.Consensus (fresh B.Broadcast C.Consensus (cards_of script.now.cards (length script.now.book.now)) (in_ranking_order K.Kind.precedes script.now.book.now)) script.now.calls.now) }
+    ensures answers { IfOk result (λ k. k.answers.items ≡ answers_to B.Broadcast C.Consensus (fresh B.Broadcast C.Consensus (cards_of script.now.cards (length script.now.book.now)) (in_ranking_order K.Kind.precedes script.now.book.now)) script.now.calls.now) }
     ensures made { IfOk result (λ k. B.Broadcast.made (model B.Broadcast C.Consensus k.carrier).broadcast) }
-    ensures order { IfOk result (λ k. OneOrder B.Broadcast C.Consensus (cards_of cards (length book.now)) (tally calls.now k.answers.items) (model B.Broadcast C.Consensus k.carrier)) }
+    ensures order { IfOk result (λ k. OneOrder B.Broadcast C.Consensus (cards_of script.now.cards (length script.now.book.now)) (tally script.now.calls.now k.answers.items) (model B.Broadcast C.Consensus k.carrier)) }
 {
-    let mut answers = Vec::with_capacity(heap, calls.len())?;
-    let mut carrier = new_carrier::<K, B, C>(heap, cards, book)?;
-    make_calls(&mut carrier, calls, &mut answers);
+    let mut answers = Vec::with_capacity(heap, script.calls.len())?;
+    let mut carrier = new_carrier::<K, B, C>(heap, script)?;
+    make_calls(&mut carrier, script.calls, &mut answers);
     let end = RunEnd { carrier, answers };
-    order_law::<K, B, C>(cards, book, calls, &end);
+    order_law::<K, B, C>(script, &end);
     Ok(end)
 }
 
@@ -58,32 +64,29 @@ pub struct UniformEnd<B, C> {
 // suspects every crashed one.
 pub fn run_uniform<K: Kind, B: Uniform + Drop, C: Consensus + Drop>(
     heap: Global,
-    cards: usize,
-    book: &[K],
-    calls: &[Call],
+    script: &Script<'_, K>,
 ) -> Result<UniformEnd<B, C>, AllocError>
-    ensures carrier { IfOk result (λ k. model B.Broadcast C.Consensus k.run.carrier ≡ left_by B.Broadcast C.Consensus (fresh B.Broadcast C.Consensus (cards_of cards (length book.now)) (in_ranking_order K.Kind.precedes book.now)) calls.now) }
-    ensures answers { IfOk result (λ k. k.run.answers.items ≡ answers_to B.Broadcast C.Consensus (fresh B.Broadcast C.Consensus (cards_of cards (length book.now)) (in_ranking_order K.Kind.precedes book.now)) calls.now) }
-    ensures order { IfOk result (λ k. OneOrder B.Broadcast C.Consensus (cards_of cards (length book.now)) (tally calls.now k.run.answers.items) (model B.Broadcast C.Consensus k.run.carrier)) }
+    ensures carrier { IfOk result (λ k. model B.Broadcast C.Consensus k.run.carrier ≡ left_by B.Broadcast C.Consensus (fresh B.Broadcast C.Consensus (cards_of script.now.cards (length script.now.book.now)) (in_ranking_order K.Kind.precedes script.now.book.now)) script.now.calls.now) }
+    ensures answers { IfOk result (λ k. k.run.answers.items ≡ answers_to B.Broadcast C.Consensus (fresh B.Broadcast C.Consensus (cards_of script.now.cards (length script.now.book.now)) (in_ranking_order K.Kind.precedes script.now.book.now)) script.now.calls.now) }
+    ensures order { IfOk result (λ k. OneOrder B.Broadcast C.Consensus (cards_of script.now.cards (length script.now.book.now)) (tally script.now.calls.now k.run.answers.items) (model B.Broadcast C.Consensus k.run.carrier)) }
     ensures quiet { IfOk result (λ k. Decides k.quiet (Quiet (shown B.Broadcast (model B.Broadcast C.Consensus k.run.carrier).broadcast).net)) }
-    ensures crashed_logs_begin_running_ones { IfOk result (λ k. CrashedLogsBeginRunningOnes B.Broadcast C.Consensus (cards_of cards (length book.now)) (tally calls.now k.run.answers.items) (model B.Broadcast C.Consensus k.run.carrier)) }
+    ensures crashed_logs_begin_running_ones { IfOk result (λ k. CrashedLogsBeginRunningOnes B.Broadcast C.Consensus (cards_of script.now.cards (length script.now.book.now)) (tally script.now.calls.now k.run.answers.items) (model B.Broadcast C.Consensus k.run.carrier)) }
 {
-    let run = run::<K, B, C>(heap, cards, book, calls)?;
+    let run = run::<K, B, C>(heap, script)?;
     let quiet = run.carrier.is_quiet();
-    crashed_logs_law::<K, B, C>(cards, book, calls, &run, quiet);
+    crashed_logs_law::<K, B, C>(script, &run, quiet);
     Ok(UniformEnd { run, quiet })
 }
 
 // A new carrier; and its book has a ranking order.
 fn new_carrier<K: Kind, B: Broadcast + Drop, C: Consensus + Drop>(
     heap: Global,
-    cards: usize,
-    book: &[K],
+    script: &Script<'_, K>,
 ) -> Result<Carrier<B, C>, AllocError>
-    ensures fresh { IfOk result (λ k. model B.Broadcast C.Consensus k ≡ fresh B.Broadcast C.Consensus (cards_of cards (length book.now)) (in_ranking_order K.Kind.precedes book.now)) }
-    ensures ranked { OnOk result (RankingOrder K.Kind.precedes book.now (in_ranking_order K.Kind.precedes book.now)) }
+    ensures fresh { IfOk result (λ k. model B.Broadcast C.Consensus k ≡ fresh B.Broadcast C.Consensus (cards_of script.now.cards (length script.now.book.now)) (in_ranking_order K.Kind.precedes script.now.book.now)) }
+    ensures ranked { OnOk result (RankingOrder K.Kind.precedes script.now.book.now (in_ranking_order K.Kind.precedes script.now.book.now)) }
 {
-    Carrier::new(heap, cards, book)
+    Carrier::new(heap, script.cards, script.book)
 }
 
 // Makes the calls, one after the other, and keeps what each answered.
@@ -120,29 +123,25 @@ fn make_call<B: Broadcast, C: Consensus>(
 
 // The order law, of the end of any run. This function does nothing: it states the law.
 fn order_law<K: Kind, B: Broadcast, C: Consensus>(
-    cards: usize,
-    book: &[K],
-    calls: &[Call],
+    script: &Script<'_, K>,
     end: &RunEnd<B, C>,
 )
-    requires ranked { RankingOrder K.Kind.precedes book.now (in_ranking_order K.Kind.precedes book.now) }
-    requires carrier { model B.Broadcast C.Consensus end.now.carrier ≡ left_by B.Broadcast C.Consensus (fresh B.Broadcast C.Consensus (cards_of cards (length book.now)) (in_ranking_order K.Kind.precedes book.now)) calls.now }
-    requires answers { end.now.answers.items ≡ answers_to B.Broadcast C.Consensus (fresh B.Broadcast C.Consensus (cards_of cards (length book.now)) (in_ranking_order K.Kind.precedes book.now)) calls.now }
+    requires ranked { RankingOrder K.Kind.precedes script.now.book.now (in_ranking_order K.Kind.precedes script.now.book.now) }
+    requires carrier { model B.Broadcast C.Consensus end.now.carrier ≡ left_by B.Broadcast C.Consensus (fresh B.Broadcast C.Consensus (cards_of script.now.cards (length script.now.book.now)) (in_ranking_order K.Kind.precedes script.now.book.now)) script.now.calls.now }
+    requires answers { end.now.answers.items ≡ answers_to B.Broadcast C.Consensus (fresh B.Broadcast C.Consensus (cards_of script.now.cards (length script.now.book.now)) (in_ranking_order K.Kind.precedes script.now.book.now)) script.now.calls.now }
     ensures made { B.Broadcast.made (model B.Broadcast C.Consensus end.now.carrier).broadcast }
-    ensures order { OneOrder B.Broadcast C.Consensus (cards_of cards (length book.now)) (tally calls.now end.now.answers.items) (model B.Broadcast C.Consensus end.now.carrier) }
+    ensures order { OneOrder B.Broadcast C.Consensus (cards_of script.now.cards (length script.now.book.now)) (tally script.now.calls.now end.now.answers.items) (model B.Broadcast C.Consensus end.now.carrier) }
 {}
 
 // At rest under full suspicion the broadcast is quiet, so the question is answered yes, and its promise holds. This, too, does nothing.
 fn crashed_logs_law<K: Kind, B: Uniform, C: Consensus>(
-    cards: usize,
-    book: &[K],
-    calls: &[Call],
+    script: &Script<'_, K>,
     end: &RunEnd<B, C>,
     quiet: bool,
 )
     requires made { B.Broadcast.made (model B.Broadcast C.Consensus end.now.carrier).broadcast }
-    requires order { OneOrder B.Broadcast C.Consensus (cards_of cards (length book.now)) (tally calls.now end.now.answers.items) (model B.Broadcast C.Consensus end.now.carrier) }
+    requires order { OneOrder B.Broadcast C.Consensus (cards_of script.now.cards (length script.now.book.now)) (tally script.now.calls.now end.now.answers.items) (model B.Broadcast C.Consensus end.now.carrier) }
     requires answer { Decides quiet (Quiet (shown B.Broadcast (model B.Broadcast C.Consensus end.now.carrier).broadcast).net) }
     requires agreed { quiet ≡ true → B.Broadcast.made (model B.Broadcast C.Consensus end.now.carrier).broadcast → UniformAgreement (shown B.Broadcast (model B.Broadcast C.Consensus end.now.carrier).broadcast) }
-    ensures { CrashedLogsBeginRunningOnes B.Broadcast C.Consensus (cards_of cards (length book.now)) (tally calls.now end.now.answers.items) (model B.Broadcast C.Consensus end.now.carrier) }
+    ensures { CrashedLogsBeginRunningOnes B.Broadcast C.Consensus (cards_of script.now.cards (length script.now.book.now)) (tally script.now.calls.now end.now.answers.items) (model B.Broadcast C.Consensus end.now.carrier) }
 {}

@@ -18,12 +18,12 @@ pub returns : goal.returns
 returns g c =
     let b = g.B.Broadcast in
     let d = g.C.Consensus in
-    let xs = c.args.calls.now in
-    let book = c.args.book.now in
-    let n = cards_of c.args.cards (length book) in
+    let xs = c.args.script.now.calls.now in
+    let book = c.args.script.now.book.now in
+    let n = cards_of c.args.script.now.cards (length book) in
     let order = in_ranking_order g.K.Kind.precedes book in
     let new = fresh b d n order in
-    let F = run_fits b d (means g) c.args.cards (length book) order (listed g.K.Kind.precedes book c.requires.ranked) xs in
+    let F = run_fits b d (means g) c.args.script.now.cards (length book) order (listed g.K.Kind.precedes book c.requires.ranked) xs in
     let O = ordered b d (means g) n (tally xs (answers_to b d new xs)) (left_by b d new xs) F in
     record {
       made = subst (λ (z : Carrying b d). b.made z.broadcast) (sym c.requires.carrier) F.good.broadcast_made;

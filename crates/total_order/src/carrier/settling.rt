@@ -28,8 +28,10 @@ impl<B: Broadcast, C: Consensus> Carrier<B, C> {
     pub fn is_at_rest(&self) -> bool
         ensures { result ≡ at_rest B.Broadcast C.Consensus (model B.Broadcast C.Consensus self.now) }
     {
-        let no_item = (self.wire_len(Wire::Broadcast) == 0) & (self.wire_len(Wire::Consensus) == 0);
-        no_item & (self.taker().is_none() & self.proposer().is_none())
+        self.wire_len(Wire::Broadcast) == 0
+            && self.wire_len(Wire::Consensus) == 0
+            && self.taker().is_none()
+            && self.proposer().is_none()
     }
 
     // The steps that were made.
