@@ -55,9 +55,8 @@ impl FileFault {
     {
         match self {
             FileFault::Long => LONGEST,
-            FileFault::Contents(fault) => fault.place(),
-            FileFault::Body(BodyFault::Notes(fault)) => fault.place(),
-            FileFault::Body(BodyFault::Events(fault)) => fault.place(),
+            FileFault::Contents(fault)
+            | FileFault::Body(BodyFault::Notes(fault) | BodyFault::Events(fault)) => fault.place(),
             FileFault::Surplus { place } => place,
         }
     }
@@ -66,11 +65,10 @@ impl FileFault {
         ensures { result ≡ layer_of self }
     {
         match self {
-            FileFault::Long => Layer::File,
+            FileFault::Long | FileFault::Surplus { .. } => Layer::File,
             FileFault::Contents(_) => Layer::Contents,
             FileFault::Body(BodyFault::Notes(_)) => Layer::Notes,
             FileFault::Body(BodyFault::Events(_)) => Layer::Events,
-            FileFault::Surplus { .. } => Layer::File,
         }
     }
 }
