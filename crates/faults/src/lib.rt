@@ -2,6 +2,7 @@
 #![tactic(auto)]
 
 ghost use Rattle.std.specs.Prelude.{◌≡◌, Some};
+ghost use Rattle.faults.specs.declared.FileFault.TheVariants.{Body};
 ghost use Rattle.faults.specs.Faults.{cause_of, place_of, layer_of, layer_word, fault_text};
 
 use std::fmt;
@@ -22,6 +23,14 @@ pub enum FileFault {
     Body(BodyFault),
     // Bytes follow the last event.
     Surplus { place: usize },
+}
+
+impl From<BodyFault> for FileFault {
+    ghost from_gives = { λ b f. f ≡ Body b };
+
+    fn from(fault: BodyFault) -> FileFault {
+        FileFault::Body(fault)
+    }
 }
 
 // The layer of the file to which a fault belongs.
