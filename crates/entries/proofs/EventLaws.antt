@@ -7,8 +7,8 @@ use Rattle.text.specs.Written.{field_bytes}
 use Rattle.text.proofs.FieldLaws.{placed}
 use Rattle.entries.specs.declared.event.Event.{Event}
 use Rattle.entries.specs.declared.event.Event.TheVariants.{Post, Propose, Take, Crash, Suspect, Carry, Lose, Settle}
-use Rattle.entries.specs.declared.event.Wire.{Wire}
-use Rattle.entries.specs.declared.event.Wire.TheVariants.{Broadcast, Consensus}
+use Rattle.parts.specs.declared.wires.Wire.{Wire}
+use Rattle.parts.specs.declared.wires.Wire.TheVariants.{Broadcast, Consensus}
 use Rattle.entries.specs.Chains.{bind}
 use Rattle.entries.specs.Events.{one_number, two_numbers, wire_of, wire_item, event_by, event_from, event_of}
 use Rattle.entries.specs.Written.{ReadsWritten, anywhere, wire_word, event_words, event_text, EventAllowed}

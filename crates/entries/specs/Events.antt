@@ -2,18 +2,12 @@
 use Rattle.std.specs.Prelude.{ℕ, cond, List, [], ◌∷◌, Some, None, Option, ◌==◌}
 use Rattle.std.specs.Option.{option_map}
 use Rattle.text.specs.Parts.{Span}
-use Rattle.text.specs.Fields.{Cut, field_of, cut_fields, number_in, letter_in}
+use Rattle.text.specs.Fields.{Cut, cut_fields, number_in, letter_in}
 use Rattle.entries.specs.declared.event.Event.{Event}
 use Rattle.entries.specs.declared.event.Event.TheVariants.{Post, Propose, Take, Crash, Suspect, Carry, Lose, Settle}
-use Rattle.entries.specs.declared.event.Wire.{Wire}
-use Rattle.entries.specs.declared.event.Wire.TheVariants.{Broadcast, Consensus}
-use Rattle.entries.specs.declared.event_line.Operands.{Operands}
-use Rattle.entries.specs.declared.event_line.Operands.TheVariants.{One, Two}
+use Rattle.parts.specs.declared.wires.Wire.{Wire}
+use Rattle.parts.specs.declared.wires.Wire.TheVariants.{Broadcast, Consensus}
 use Rattle.entries.specs.Chains.{bind}
-
-abbrev pub operands_of : Operands → List Cut
-operands_of (One a) = field_of a ∷ []
-operands_of (Two a b) = field_of a ∷ field_of b ∷ []
 
 -- one number up to 65,535
 abbrev pub one_number : List Cut → Option ℕ

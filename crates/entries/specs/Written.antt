@@ -6,8 +6,8 @@ use Rattle.text.specs.Parts.{Span, place_of}
 use Rattle.text.specs.Written.{Free, spaced}
 use Rattle.entries.specs.declared.event.Event.{Event}
 use Rattle.entries.specs.declared.event.Event.TheVariants.{Post, Propose, Take, Crash, Suspect, Carry, Lose, Settle}
-use Rattle.entries.specs.declared.event.Wire.{Wire}
-use Rattle.entries.specs.declared.event.Wire.TheVariants.{Broadcast, Consensus}
+use Rattle.parts.specs.declared.wires.Wire.{Wire}
+use Rattle.parts.specs.declared.wires.Wire.TheVariants.{Broadcast, Consensus}
 
 -- A rule reads what is written and nothing else. `text` is the line of a thing, without its end;
 -- `put` is what is answered for a thing whose line starts at a place.

@@ -1,11 +1,11 @@
 // Events: the calls that a schedule makes on the carrier, one after the other.
 
-// A wire is the list of items on their way in the broadcast or in the consensus.
-#[derive(Clone, Copy, Debug, PartialEq, Eq)]
-pub enum Wire {
-    Broadcast,
-    Consensus,
-}
+ghost use Rattle.std.specs.Prelude.{◌≡◌, Some};
+ghost use Rattle.entries.specs.Written.{wire_word, event_text};
+
+use std::fmt;
+
+pub use parts::wires::Wire;
 
 #[derive(Clone, Copy, Debug, PartialEq, Eq)]
 pub enum Event {
@@ -24,4 +24,37 @@ pub enum Event {
     Lose { wire: Wire, item: u32 },
     // The carrier works on by itself, up to so many steps.
     Settle { limit: u32 },
+}
+
+fn word(wire: Wire) -> &'static str
+    ensures { result.now ≡ wire_word wire }
+{
+    match wire {
+        Wire::Broadcast => "b",
+        Wire::Consensus => "c",
+    }
+}
+
+// The line of the event, without its end.
+impl fmt::Display for Event {
+    ghost output = { λ e. Some (event_text e) };
+
+    fn fmt<W: fmt::Write>(&self, f: &mut fmt::Formatter<W>) -> fmt::Result {
+        match *self {
+            Event::Post { card, note } => write!(f, "b {card} {note}"),
+            Event::Propose { card } => write!(f, "p {card}"),
+            Event::Take { card } => write!(f, "t {card}"),
+            Event::Crash { card } => write!(f, "x {card}"),
+            Event::Suspect { by, card } => write!(f, "s {by} {card}"),
+            Event::Carry { wire, item } => {
+                let wire = word(wire);
+                write!(f, "c {wire} {item}")
+            }
+            Event::Lose { wire, item } => {
+                let wire = word(wire);
+                write!(f, "l {wire} {item}")
+            }
+            Event::Settle { limit } => write!(f, "r {limit}"),
+        }
+    }
 }

@@ -1,7 +1,9 @@
 // Reading an event.
-ghost use Rattle.std.specs.Prelude.{◌≡◌};
+ghost use Rattle.std.specs.Prelude.{◌≡◌, [], ◌∷◌};
+ghost use Rattle.text.specs.Fields.{field_of, number_in, letter_in};
 ghost use Rattle.entries.specs.declared.event.Event.{Event as EventType};
-ghost use Rattle.entries.specs.Events.{operands_of, one_number, two_numbers, wire_item, wire_of, event_by, event_of};
+ghost use Rattle.entries.specs.Chains.{bind};
+ghost use Rattle.entries.specs.Events.{wire_of, event_by, event_of};
 
 use crate::event::{Event, Wire};
 use crate::line::OneLine;
@@ -11,82 +13,63 @@ use text::part::Part;
 // The largest number in an event.
 const MOST: u32 = 65535;
 
-// What follows the letter of an event.
-#[derive(Clone, Copy)]
-enum Operands<'a> {
-    One(Field<'a>),
-    Two(Field<'a>, Field<'a>),
+fn number(field: Field) -> Option<u32>
+    ensures { result ≡ number_in 65535 (field_of field.entry) }
+{
+    field.number(MOST)
 }
 
-fn number(operands: Operands) -> Option<u32>
-    ensures { result ≡ one_number (operands_of operands.entry) }
+fn wire(field: Field) -> Option<Wire>
+    ensures { result ≡ bind (letter_in (field_of field.entry)) wire_of }
 {
-    match operands {
-        Operands::One(field) => field.number(MOST),
-        Operands::Two(_, _) => None,
-    }
-}
-
-fn numbers(operands: Operands) -> Option<(u32, u32)>
-    ensures { result ≡ two_numbers (operands_of operands.entry) }
-{
-    match operands {
-        Operands::One(_) => None,
-        Operands::Two(first, second) => Some((first.number(MOST)?, second.number(MOST)?)),
-    }
-}
-
-fn wire(letter: char) -> Option<Wire>
-    ensures { result ≡ wire_of letter }
-{
-    match letter {
+    match field.letter()? {
         'b' => Some(Wire::Broadcast),
         'c' => Some(Wire::Consensus),
         _ => None,
     }
 }
 
-fn wire_item(operands: Operands) -> Option<(Wire, u32)>
-    ensures { result ≡ wire_item (operands_of operands.entry) }
+// The event that a letter and one field say.
+fn of_one(letter: char, field: Field) -> Option<Event>
+    ensures { result ≡ event_by letter (field_of field.entry ∷ []) }
 {
-    match operands {
-        Operands::One(_) => None,
-        Operands::Two(first, second) => Some((wire(first.letter()?)?, second.number(MOST)?)),
+    match letter {
+        'p' => Some(Event::Propose {
+            card: number(field)?,
+        }),
+        't' => Some(Event::Take {
+            card: number(field)?,
+        }),
+        'x' => Some(Event::Crash {
+            card: number(field)?,
+        }),
+        'r' => Some(Event::Settle {
+            limit: number(field)?,
+        }),
+        _ => None,
     }
 }
 
-// The event that its letter and what follows it say.
-fn event(letter: char, operands: Operands) -> Option<Event>
-    ensures { result ≡ event_by letter (operands_of operands.entry) }
+// The event that a letter and two fields say.
+fn of_two(letter: char, first: Field, second: Field) -> Option<Event>
+    ensures { result ≡ event_by letter (field_of first.entry ∷ field_of second.entry ∷ []) }
 {
     match letter {
-        'b' => {
-            let (card, note) = numbers(operands)?;
-            Some(Event::Post { card, note })
-        }
-        'p' => Some(Event::Propose {
-            card: number(operands)?,
+        'b' => Some(Event::Post {
+            card: number(first)?,
+            note: number(second)?,
         }),
-        't' => Some(Event::Take {
-            card: number(operands)?,
+        's' => Some(Event::Suspect {
+            by: number(first)?,
+            card: number(second)?,
         }),
-        'x' => Some(Event::Crash {
-            card: number(operands)?,
+        'c' => Some(Event::Carry {
+            wire: wire(first)?,
+            item: number(second)?,
         }),
-        's' => {
-            let (by, card) = numbers(operands)?;
-            Some(Event::Suspect { by, card })
-        }
-        'c' => {
-            let (wire, item) = wire_item(operands)?;
-            Some(Event::Carry { wire, item })
-        }
-        'l' => {
-            let (wire, item) = wire_item(operands)?;
-            Some(Event::Lose { wire, item })
-        }
-        'r' => Some(Event::Settle {
-            limit: number(operands)?,
+        'l' => Some(Event::Lose {
+            wire: wire(first)?,
+            item: number(second)?,
         }),
         _ => None,
     }
@@ -101,8 +84,8 @@ impl<'a> OneLine<'a> for Event {
 
     fn from_line(line: Part<'a>) -> Option<Event> {
         match line.fields() {
-            Fields::Two(first, a) => event(first.letter()?, Operands::One(a)),
-            Fields::Three(first, a, b) => event(first.letter()?, Operands::Two(a, b)),
+            Fields::Two(letter, field) => of_one(letter.letter()?, field),
+            Fields::Three(letter, first, second) => of_two(letter.letter()?, first, second),
             Fields::One(_) | Fields::Four(_, _, _, _) | Fields::More => None,
         }
     }

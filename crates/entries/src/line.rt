@@ -27,8 +27,6 @@ pub fn first_line<'a, T: OneLine<'a>>(rest: Part<'a>) -> Result<(T, Part<'a>), L
 {
     let place = rest.place();
     let (line, after) = rest.line()?;
-    match T::from_line(line) {
-        Some(value) => Ok((value, after)),
-        None => Err(LineFault::Wrong { place }),
-    }
+    let value = T::from_line(line).ok_or(LineFault::Wrong { place })?;
+    Ok((value, after))
 }

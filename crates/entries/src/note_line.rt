@@ -19,14 +19,13 @@ impl<'a> OneLine<'a> for Wear {
     ghost rule = { wear_of };
 
     fn from_line(line: Part<'a>) -> Option<Wear> {
-        match line.fields() {
-            Fields::Two(block, erases) => Some(Wear {
-                block: block.number(u32::MAX)?,
-                erases: erases.number(u32::MAX)?,
-            }),
-            Fields::One(_) | Fields::Three(_, _, _) | Fields::Four(_, _, _, _) | Fields::More =>
-                None,
-        }
+        let Fields::Two(block, erases) = line.fields() else {
+            return None;
+        };
+        Some(Wear {
+            block: block.number(u32::MAX)?,
+            erases: erases.number(u32::MAX)?,
+        })
     }
 }
 

@@ -2,6 +2,7 @@
 #![tactic(auto)]
 
 ghost use Rattle.std.specs.Prelude.{◌≡◌, Some};
+ghost use Rattle.faults.specs.declared.FileFault.TheVariants.{Body};
 ghost use Rattle.faults.specs.Faults.{cause_of, place_of, layer_of, layer_word, fault_text};
 
 use std::fmt;
@@ -22,6 +23,14 @@ pub enum FileFault {
     Body(BodyFault),
     // Bytes follow the last event.
     Surplus { place: usize },
+}
+
+impl From<BodyFault> for FileFault {
+    ghost from_gives = { λ b f. f ≡ Body b };
+
+    fn from(fault: BodyFault) -> FileFault {
+        FileFault::Body(fault)
+    }
 }
 
 // The layer of the file to which a fault belongs.
@@ -55,9 +64,8 @@ impl FileFault {
     {
         match self {
             FileFault::Long => LONGEST,
-            FileFault::Contents(fault) => fault.place(),
-            FileFault::Body(BodyFault::Notes(fault)) => fault.place(),
-            FileFault::Body(BodyFault::Events(fault)) => fault.place(),
+            FileFault::Contents(fault)
+            | FileFault::Body(BodyFault::Notes(fault) | BodyFault::Events(fault)) => fault.place(),
             FileFault::Surplus { place } => place,
         }
     }
@@ -66,11 +74,10 @@ impl FileFault {
         ensures { result ≡ layer_of self }
     {
         match self {
-            FileFault::Long => Layer::File,
+            FileFault::Long | FileFault::Surplus { .. } => Layer::File,
             FileFault::Contents(_) => Layer::Contents,
             FileFault::Body(BodyFault::Notes(_)) => Layer::Notes,
             FileFault::Body(BodyFault::Events(_)) => Layer::Events,
-            FileFault::Surplus { .. } => Layer::File,
         }
     }
 }

@@ -11,8 +11,8 @@ use std::io::Read;
 
 fn print_notes(rt: &HostRuntime, notes: Notes<'_>) -> anyhow::Result<()> {
     match notes {
-        Notes::Wears(wears) => print_ranked(rt, wears.as_slice()),
-        Notes::Labels(labels) => print_ranked(rt, labels.as_slice()),
+        Notes::Wears(wears) => print_ranked(rt, &wears),
+        Notes::Labels(labels) => print_ranked(rt, &labels),
     }
 }
 
@@ -30,7 +30,7 @@ fn print_report(rt: &HostRuntime, file: &[u8]) -> anyhow::Result<()> {
 fn run(rt: &HostRuntime) -> anyhow::Result<()> {
     let mut file = Vec::new(rt.alloc());
     rt.stdin().read_to_end(&mut file)?;
-    print_report(rt, file.as_slice())
+    print_report(rt, &file)
 }
 
 fn main(rt: HostRuntime) -> anyhow::Result<()> {

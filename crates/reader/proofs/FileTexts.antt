@@ -19,6 +19,7 @@ use Rattle.entries.specs.Notes.{wear_of, label_at}
 use Rattle.entries.specs.Events.{event_of}
 use Rattle.schedule.specs.Contents.{contents_of}
 use Rattle.entries.specs.Written.{anywhere, wear_text, WearAllowed, label_put, label_text, LabelAllowed, event_text, EventAllowed, written_lines, line_itself}
+use Rattle.schedule.specs.Says.{ContentsSays}
 use Rattle.schedule.specs.Written.{contents_lines, ContentsAllowed, contents_text}
 use Rattle.entries.proofs.NoteLaws.{wear_reads, label_reads}
 use Rattle.entries.proofs.EventLaws.{event_reads}
@@ -194,6 +195,7 @@ module _ (file : List ℕ) where
   rest c = and_then (map_err notes_fault (notes_of c.0.kind c.0.notes c.1)) (λ n. and_then (map_err events_fault (lines_of event_of c.0.events n.1)) (λ e. ended (record { contents = c.0; notes = n.0; events = e.0 }) e.1))
 
   whole_file : Says (and_then (map_err (λ f. InContents f) (contents_of (whole_of file))) rest)
+  unfolding ContentsSays
   whole_file =
       split (contents_of (whole_of file)) (λ f. InContents f) rest Says
       (λ q e. let o = contents_say (whole_of file) (Ok q) (sym e) in after_contents q.0 o.2 q.1 o.0 o.1)
@@ -266,6 +268,7 @@ pub events_say : (count : ℕ) (p : Span) (r : Result Span LineFault) → r ≡ 
 events_say count p r e = section_says event_of anywhere event_text EventAllowed event_reads count p (lines_of event_of count p) r refl e
 
 check_with : (file : List ℕ) (s : Result Whole FileFault) (r : Result Contents FileFault) → r ≡ contents_in s → FileSays file s → CheckSays file r
+unfolding CheckSays
 check_with file (Ok w) (Ok c) e h = (w, cc, h)
 check_with file (Ok w) (Err f) e h = absurd (grind arith)
 check_with file (Err g) (Ok c) e h = absurd (grind arith)
@@ -279,6 +282,7 @@ unread_with file (Ok w) e h = (w, h)
 unread_with file (Err f) e h = absurd (grind arith)
 
 pub read_says : (file : List ℕ) (r : Result Schedule Unread) → Answers r (schedule_of file) → ReadSays file r
+unfolding ReadSays
 read_says file (Ok s) a = file_says file (Ok (whole_in s)) (sym a)
 read_says file (Err (Fault f)) a = file_says file (Err f) (sym a)
 read_says file (Err NoMemory) a = unread_with file (schedule_of file) a (file_says file (schedule_of file) refl)

@@ -94,6 +94,7 @@ module _ {A B : Type 0} (rule : Span → Option A) (put : ℕ → B → A) (text
       )
 
   pub section_says : (count : ℕ) (p : Span) (s : Result (List A × Span) LineFault) (r : Result Span LineFault) → s ≡ lines_of rule count p → r ≡ end_of s → SectionSays text Fit count p r
+  unfolding SectionSays
   section_says count p (Ok q) (Ok rest) e h =
       let o = lines_only [] count p q (sym e) in
       let same : q.1 ≡ rest = cc in

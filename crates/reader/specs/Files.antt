@@ -41,8 +41,12 @@ abbrev pub events_fault : LineFault → FileFault
 events_fault f = Body (Events f)
 
 -- nothing may follow the last event
-abbrev pub ended : Whole → Span → Result Whole FileFault
+abbrev pub ended : {A : Type 0} → A → Span → Result A FileFault
 ended w rest = cond (length rest.0 == 0) (Ok w) (Err (Surplus (place_of rest)))
+
+-- the contents of a file that is not too long, and what follows them
+abbrev pub opening_of : List ℕ → Result (Contents × Span) FileFault
+opening_of file = cond (nat_lt 65536 (length file)) (Err Long) (map_err (λ f. InContents f) (contents_of (whole_of file)))
 
 -- The schedule that a file says, or its first fault.
 abbrev pub schedule_of : List ℕ → Result Whole FileFault

@@ -39,7 +39,7 @@ pub record LinesStop {B : Type 0} (text : B → List ℕ) (Ok' : B → Type 0) (
   pub due : NoLine text Ok' tail
 
 -- A section that is accepted is that many lines; one that is refused is not, in any way.
-abbrev pub SectionSays : {B : Type 0} → (B → List ℕ) → (B → Type 0) → ℕ → Span → Result Span LineFault → Type 0
+unfoldable pub SectionSays : {B : Type 0} → (B → List ℕ) → (B → Type 0) → ℕ → Span → Result Span LineFault → Type 0
 SectionSays {B} text Ok' count p (Ok rest) = (things : List B) × LinesStand text Ok' count p rest things
 SectionSays {B} text Ok' count p (Err f) = LinesStop text Ok' count p f × ((rest : Span) (things : List B) → LinesStand text Ok' count p rest things → ⊥)
 
@@ -112,11 +112,11 @@ FileSays file (Ok w) = OnlySchedule file w
 FileSays file (Err f) = FirstFault file f × ((s : Plan) → Allowed s → file ≢ written s)
 
 -- The same of the answers of a check and of a reading.
-abbrev pub CheckSays : List ℕ → Result Contents FileFault → Type 0
+unfoldable pub CheckSays : List ℕ → Result Contents FileFault → Type 0
 CheckSays file (Ok c) = (w : Whole) × (w.contents ≡ c) × OnlySchedule file w
 CheckSays file (Err f) = FileSays file (Err f)
 
-abbrev pub ReadSays : List ℕ → Result Schedule Unread → Type 0
+unfoldable pub ReadSays : List ℕ → Result Schedule Unread → Type 0
 ReadSays file (Ok s) = OnlySchedule file (whole_in s)
 ReadSays file (Err (Fault f)) = FileSays file (Err f)
 ReadSays file (Err NoMemory) = (w : Whole) × OnlySchedule file w

@@ -1,6 +1,8 @@
 // Checking a file without any memory of its own.
 ghost use Rattle.std.specs.Prelude.{◌≡◌};
-ghost use Rattle.reader.specs.Files.{schedule_of, contents_in};
+ghost use Rattle.text.specs.Parts.{part_of};
+ghost use Rattle.entries.specs.Lines.{seen_line, same_value};
+ghost use Rattle.reader.specs.Files.{opening_of, ended, schedule_of, contents_in};
 ghost use Rattle.reader.specs.Says.{CheckSays};
 
 use crate::section::{check_events, check_notes};
@@ -8,26 +10,22 @@ use faults::{BodyFault, FileFault, LONGEST};
 use schedule::contents::Contents;
 use text::part::Part;
 
-fn first_fault(file: &[u8]) -> Result<Contents, FileFault>
-    ensures { result ≡ contents_in (schedule_of file.now) }
+// The contents of a file that is not too long, and what follows them.
+pub(crate) fn opening<'a>(file: &'a [u8]) -> Result<(Contents, Part<'a>), FileFault>
+    ensures { seen_line same_value result ≡ opening_of file.now }
 {
     if file.len() > LONGEST {
         return Err(FileFault::Long);
     }
-    let (contents, rest) = match Contents::read(Part::whole(file)) {
-        Ok(read) => read,
-        Err(fault) => return Err(FileFault::Contents(fault)),
-    };
-    let rest = match check_notes(contents.kind, rest, contents.notes) {
-        Ok(after) => after,
-        Err(fault) => return Err(FileFault::Body(BodyFault::Notes(fault))),
-    };
-    let rest = match check_events(rest, contents.events) {
-        Ok(after) => after,
-        Err(fault) => return Err(FileFault::Body(BodyFault::Events(fault))),
-    };
+    Contents::read(Part::whole(file)).map_err(FileFault::Contents)
+}
+
+// Nothing may follow the last event.
+pub(crate) fn ended(rest: Part) -> Result<(), FileFault>
+    ensures { result ≡ ended tt (part_of rest.entry) }
+{
     if rest.is_empty() {
-        Ok(contents)
+        Ok(())
     } else {
         Err(FileFault::Surplus {
             place: rest.place(),
@@ -36,9 +34,14 @@ fn first_fault(file: &[u8]) -> Result<Contents, FileFault>
 }
 
 // The contents of a file in which nothing is wrong, or its first fault.
+#[tactic(auto, using(crate::proofs::FileTexts::check_says))]
 pub fn check(file: &[u8]) -> Result<Contents, FileFault>
     ensures value { result ≡ contents_in (schedule_of file.now) }
     ensures says { CheckSays file.now result }
 {
-    first_fault(file)
+    let (contents, rest) = opening(file)?;
+    let rest = check_notes(contents.kind, rest, contents.notes).map_err(BodyFault::Notes)?;
+    let rest = check_events(rest, contents.events).map_err(BodyFault::Events)?;
+    ended(rest)?;
+    Ok(contents)
 }

@@ -6,18 +6,15 @@ ghost use Rattle.reader.specs.Sections.{notes_of};
 ghost use Rattle.reader.specs.Files.{schedule_of, Holds, NotesHold, EventsHold, Refuses, Answers};
 ghost use Rattle.reader.specs.Says.{ReadSays};
 
-use crate::check::check;
+use crate::check::{check, ended, opening};
 use crate::file::{Notes, Schedule, Unread};
 use crate::section::read_lines;
 use entries::event::Event;
-use faults::{BodyFault, FileFault, LONGEST};
-use labels::Label;
-use notes::wear::Wear;
-use schedule::contents::{Contents, NoteKind};
+use faults::BodyFault;
+use schedule::contents::NoteKind;
 use std::alloc::Global;
 use text::part::Part;
 
-// The notes, for which memory is reserved first.
 fn read_notes<'a>(
     heap: Global,
     kind: NoteKind,
@@ -28,27 +25,16 @@ fn read_notes<'a>(
 {
     match kind {
         NoteKind::Wear => {
-            let Ok(room) = Vec::with_capacity(heap, count as usize) else {
-                return Err(Unread::NoMemory);
-            };
-            match read_lines(room, rest, count) {
-                Ok((wears, after)) => Ok((Notes::Wears(wears), after)),
-                Err(fault) => Err(Unread::Fault(FileFault::Body(BodyFault::Notes(fault)))),
-            }
+            let (wears, after) = read_lines(heap, rest, count)?.map_err(BodyFault::Notes)?;
+            Ok((Notes::Wears(wears), after))
         }
         NoteKind::Label => {
-            let Ok(room) = Vec::with_capacity(heap, count as usize) else {
-                return Err(Unread::NoMemory);
-            };
-            match read_lines(room, rest, count) {
-                Ok((labels, after)) => Ok((Notes::Labels(labels), after)),
-                Err(fault) => Err(Unread::Fault(FileFault::Body(BodyFault::Notes(fault)))),
-            }
+            let (labels, after) = read_lines(heap, rest, count)?.map_err(BodyFault::Notes)?;
+            Ok((Notes::Labels(labels), after))
         }
     }
 }
 
-// The events, for which memory is reserved first.
 fn read_events<'a>(
     heap: Global,
     rest: Part<'a>,
@@ -56,45 +42,22 @@ fn read_events<'a>(
 ) -> Result<(Vec<Event>, Part<'a>), Unread>
     ensures { EventsHold result (lines_of event_of count (part_of rest.entry)) }
 {
-    let Ok(room) = Vec::with_capacity(heap, count as usize) else {
-        return Err(Unread::NoMemory);
-    };
-    match read_lines(room, rest, count) {
-        Ok(read) => Ok(read),
-        Err(fault) => Err(Unread::Fault(FileFault::Body(BodyFault::Events(fault)))),
-    }
+    Ok(read_lines(heap, rest, count)?.map_err(BodyFault::Events)?)
 }
 
 // The schedule that the file says, the first fault, or want of memory on the way.
 fn read_whole<'a>(heap: Global, file: &'a [u8]) -> Result<Schedule<'a>, Unread>
     ensures { Holds result (schedule_of file.now) }
 {
-    if file.len() > LONGEST {
-        return Err(Unread::Fault(FileFault::Long));
-    }
-    let (contents, rest) = match Contents::read(Part::whole(file)) {
-        Ok(read) => read,
-        Err(fault) => return Err(Unread::Fault(FileFault::Contents(fault))),
-    };
-    let (notes, rest) = match read_notes(heap, contents.kind, rest, contents.notes) {
-        Ok(read) => read,
-        Err(unread) => return Err(unread),
-    };
-    let (events, rest) = match read_events(heap, rest, contents.events) {
-        Ok(read) => read,
-        Err(unread) => return Err(unread),
-    };
-    if rest.is_empty() {
-        Ok(Schedule {
-            contents,
-            notes,
-            events,
-        })
-    } else {
-        Err(Unread::Fault(FileFault::Surplus {
-            place: rest.place(),
-        }))
-    }
+    let (contents, rest) = opening(file)?;
+    let (notes, rest) = read_notes(heap, contents.kind, rest, contents.notes)?;
+    let (events, rest) = read_events(heap, rest, contents.events)?;
+    ended(rest)?;
+    Ok(Schedule {
+        contents,
+        notes,
+        events,
+    })
 }
 
 // What to say where memory is wanting: the first fault all the same, if the file has one.
@@ -107,20 +70,14 @@ fn without_memory(file: &[u8]) -> Unread
     }
 }
 
-fn read_or_check<'a>(heap: Global, file: &'a [u8]) -> Result<Schedule<'a>, Unread>
-    ensures { Answers result (schedule_of file.now) }
-{
-    match read_whole(heap, file) {
-        Ok(schedule) => Ok(schedule),
-        Err(Unread::Fault(fault)) => Err(Unread::Fault(fault)),
-        Err(Unread::NoMemory) => Err(without_memory(file)),
-    }
-}
-
 // The schedule that the file says, or its first fault; want of memory hides no fault.
+#[tactic(auto, using(crate::proofs::FileTexts::read_says))]
 pub fn read<'a>(heap: Global, file: &'a [u8]) -> Result<Schedule<'a>, Unread>
     ensures value { Answers result (schedule_of file.now) }
     ensures says { ReadSays file.now result }
 {
-    read_or_check(heap, file)
+    match read_whole(heap, file) {
+        Err(Unread::NoMemory) => Err(without_memory(file)),
+        answer => answer,
+    }
 }

@@ -1,5 +1,5 @@
 // Sections: so many lines of one kind.
-ghost use Rattle.std.specs.Prelude.{◌≡◌, ◌+◌, ◌≤◌, [], vec_len, vec_capacity};
+ghost use Rattle.std.specs.Prelude.{◌≡◌, ◌+◌, ◌≤◌, [], IfOk, vec_len, vec_capacity};
 ghost use Rattle.text.specs.Parts.{part_of};
 ghost use Rattle.entries.specs.Lines.{lines_of};
 ghost use Rattle.entries.specs.Events.{event_of};
@@ -13,28 +13,23 @@ use entries::line::{OneLine, first_line};
 use labels::Label;
 use notes::wear::Wear;
 use schedule::contents::NoteKind;
+use std::alloc::{AllocError, Global};
 use text::fault::LineFault;
 use text::part::Part;
 
 // What follows so many lines, if each says what it should. It keeps nothing of what they say.
-pub(crate) fn check_lines<'a, T: OneLine<'a> + Drop>(
-    rest: Part<'a>,
-    count: u32,
-) -> Result<Part<'a>, LineFault>
+fn check_lines<'a, T: OneLine<'a> + Drop>(rest: Part<'a>, count: u32) -> Result<Part<'a>, LineFault>
     ensures { end_seen result ≡ end_of (lines_of T.rule count (part_of rest.entry)) }
 {
     let mut left = rest;
     for _i in 0..count {
-        match first_line::<T>(left) {
-            Ok((_, after)) => left = after,
-            Err(fault) => return Err(fault),
-        }
+        (_, left) = first_line::<T>(left)?;
     }
     Ok(left)
 }
 
 // What so many lines say, put into a list that has room for it, and what follows them.
-pub(crate) fn read_lines<'a, T: OneLine<'a> + Drop>(
+fn read_into<'a, T: OneLine<'a> + Drop>(
     room: Vec<T>,
     rest: Part<'a>,
     count: u32,
@@ -46,19 +41,30 @@ pub(crate) fn read_lines<'a, T: OneLine<'a> + Drop>(
     let mut out = room;
     let mut left = rest;
     for _i in 0..count {
-        match first_line(left) {
-            Ok((value, after)) => {
-                out.push_reserved(value);
-                left = after;
-            }
-            Err(fault) => return Err(fault),
-        }
+        let (value, after) = first_line(left)?;
+        out.push_reserved(value);
+        left = after;
     }
     Ok((out, left))
 }
 
-fn notes_end<'a>(kind: NoteKind, rest: Part<'a>, count: u32) -> Result<Part<'a>, LineFault>
-    ensures { end_seen result ≡ end_of (notes_of kind count (part_of rest.entry)) }
+// What so many lines say, for which memory is reserved first, and what follows them.
+pub(crate) fn read_lines<'a, T: OneLine<'a> + Drop>(
+    heap: Global,
+    rest: Part<'a>,
+    count: u32,
+) -> Result<Result<(Vec<T>, Part<'a>), LineFault>, AllocError>
+    ensures { IfOk result (λ r. items_seen T.said r ≡ lines_of T.rule count (part_of rest.entry)) }
+{
+    let room = Vec::with_capacity(heap, count as usize)?;
+    Ok(read_into(room, rest, count))
+}
+
+// What follows so many lines of notes, or the first line that says none.
+#[tactic(auto, using(crate::proofs::FileTexts::notes_say))]
+pub fn check_notes<'a>(kind: NoteKind, rest: Part<'a>, count: u32) -> Result<Part<'a>, LineFault>
+    ensures value { end_seen result ≡ end_of (notes_of kind count (part_of rest.entry)) }
+    ensures says { SectionSays (note_text kind) (NoteAllowed kind) count (part_of rest.entry) (end_seen result) }
 {
     match kind {
         NoteKind::Wear => check_lines::<Wear>(rest, count),
@@ -66,24 +72,11 @@ fn notes_end<'a>(kind: NoteKind, rest: Part<'a>, count: u32) -> Result<Part<'a>,
     }
 }
 
-fn events_end<'a>(rest: Part<'a>, count: u32) -> Result<Part<'a>, LineFault>
-    ensures { end_seen result ≡ end_of (lines_of event_of count (part_of rest.entry)) }
-{
-    check_lines::<Event>(rest, count)
-}
-
-// What follows so many lines of notes, or the first line that says none.
-pub fn check_notes<'a>(kind: NoteKind, rest: Part<'a>, count: u32) -> Result<Part<'a>, LineFault>
-    ensures value { end_seen result ≡ end_of (notes_of kind count (part_of rest.entry)) }
-    ensures says { SectionSays (note_text kind) (NoteAllowed kind) count (part_of rest.entry) (end_seen result) }
-{
-    notes_end(kind, rest, count)
-}
-
 // What follows so many lines of events, or the first line that says none.
+#[tactic(auto, using(crate::proofs::FileTexts::events_say))]
 pub fn check_events<'a>(rest: Part<'a>, count: u32) -> Result<Part<'a>, LineFault>
     ensures value { end_seen result ≡ end_of (lines_of event_of count (part_of rest.entry)) }
     ensures says { SectionSays event_text EventAllowed count (part_of rest.entry) (end_seen result) }
 {
-    events_end(rest, count)
+    check_lines::<Event>(rest, count)
 }

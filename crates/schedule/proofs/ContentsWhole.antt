@@ -164,6 +164,7 @@ pub contents_read_back : (c : Contents) (r : List ℕ) (e : ℕ) → ContentsAll
 contents_read_back c r e a = ap (λ t. contents_of (t, e)) (sym (before_written (contents_lines c) r)) ∙ contents_back c r e a
 
 says_with : (p : Span) (r : Result (Contents × Span) LineFault) → r ≡ contents_of p → Whole p r → ContentsSays p r
+unfolding ContentsSays
 says_with p (Ok q) e w = w
 says_with p (Err f) e w = (
   w,

@@ -18,6 +18,6 @@ pub record ContentsStop (p : Span) (f : LineFault) : Type 0 where
   pub due : (c : Contents) (more : List ℕ) → ContentsAllowed c → tail ≢ slice_index_or (contents_lines c) lines [] ++ (10 ∷ more)
 
 -- Contents that are read are what stands first; those that are refused stand there in no way.
-abbrev pub ContentsSays : Span → Result (Contents × Span) LineFault → Type 0
+unfoldable pub ContentsSays : Span → Result (Contents × Span) LineFault → Type 0
 ContentsSays p (Ok q) = (p.0 ≡ contents_text q.0 ++ q.1.0) × (q.1.1 ≡ p.1) × ContentsAllowed q.0
 ContentsSays p (Err f) = ContentsStop p f × ((c : Contents) (more : List ℕ) → ContentsAllowed c → p.0 ≢ contents_text c ++ more)

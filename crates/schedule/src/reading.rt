@@ -1,18 +1,32 @@
 // Reading the contents.
 ghost use Rattle.std.specs.Prelude.{◌≡◌};
+ghost use Rattle.std.specs.Range.{range_inclusive_start, range_inclusive_end};
 ghost use Rattle.text.specs.Parts.{part_of};
 ghost use Rattle.text.specs.Fields.{field_of};
 ghost use Rattle.schedule.specs.declared.contents.NoteKind.{NoteKind as KindType};
 ghost use Rattle.schedule.specs.declared.contents.Pile.{Pile as PileType};
 ghost use Rattle.entries.specs.Lines.{line_by, seen_line, same_value};
 ghost use Rattle.schedule.specs.Says.{ContentsSays};
-ghost use Rattle.schedule.specs.Contents.{kind_of, broadcast_in, consensus_in, pile_in, pile_of, count_of, contents_of};
+ghost use Rattle.schedule.specs.Contents.{kind_in, kind_of, broadcast_in, consensus_in, pile_in, pile_of, count_in, count_of, contents_of};
 
 use crate::contents::{BroadcastPart, ConsensusPart, Contents, NoteKind, Pile};
 use entries::line::{OneLine, first_line};
+use std::ops::RangeInclusive;
 use text::fault::LineFault;
 use text::field::{Field, Fields};
 use text::part::Part;
+
+fn kind(word: Field) -> Option<NoteKind>
+    ensures { result ≡ kind_in (field_of word.entry) }
+{
+    if word.is_word(b"wear") {
+        Some(NoteKind::Wear)
+    } else if word.is_word(b"label") {
+        Some(NoteKind::Label)
+    } else {
+        None
+    }
+}
 
 impl<'a> OneLine<'a> for NoteKind {
     ghost Said = { KindType };
@@ -22,17 +36,9 @@ impl<'a> OneLine<'a> for NoteKind {
     ghost rule = { kind_of };
 
     fn from_line(line: Part<'a>) -> Option<NoteKind> {
-        let Fields::Two(key, word) = line.fields() else {
-            return None;
-        };
-        if !key.is_word(b"kind") {
-            None
-        } else if word.is_word(b"wear") {
-            Some(NoteKind::Wear)
-        } else if word.is_word(b"label") {
-            Some(NoteKind::Label)
-        } else {
-            None
+        match line.fields() {
+            Fields::Two(key, word) if key.is_word(b"kind") => kind(word),
+            _ => None,
         }
     }
 }
@@ -67,12 +73,10 @@ fn consensus(word: Field) -> Option<ConsensusPart>
 fn pile(in_turn: bool, lower: Field, upper: Field) -> Option<Pile>
     ensures { result ≡ pile_in in_turn (field_of lower.entry) (field_of upper.entry) }
 {
-    let broadcast = broadcast(lower)?;
-    let consensus = consensus(upper)?;
     Some(Pile {
         in_turn,
-        broadcast,
-        consensus,
+        broadcast: broadcast(lower)?,
+        consensus: consensus(upper)?,
     })
 }
 
@@ -85,80 +89,63 @@ impl<'a> OneLine<'a> for Pile {
 
     fn from_line(line: Part<'a>) -> Option<Pile> {
         match line.fields() {
-            Fields::Three(key, lower, upper) => if key.is_word(b"pile") {
-                pile(false, lower, upper)
-            } else {
-                None
-            },
-            Fields::Four(key, layer, lower, upper) => {
-                if key.is_word(b"pile") && layer.is_word(b"inturn") {
-                    pile(true, lower, upper)
-                } else {
-                    None
-                }
-            }
-            Fields::One(_) | Fields::Two(_, _) | Fields::More => None,
+            Fields::Three(key, lower, upper) if key.is_word(b"pile") => pile(false, lower, upper),
+            Fields::Four(key, layer, lower, upper)
+                if key.is_word(b"pile") && layer.is_word(b"inturn") => pile(true, lower, upper),
+            _ => None,
         }
     }
 }
 
-// The number after a key word, if it is in its range.
-fn count(line: Part, key: &[u8], least: u32, most: u32) -> Option<u32>
-    ensures { result ≡ count_of key.now least most (part_of line.entry) }
+fn number(field: Field, range: RangeInclusive<u32>) -> Option<u32>
+    ensures { result ≡ count_in (range_inclusive_start range) (range_inclusive_end range) (field_of field.entry) }
 {
-    let Fields::Two(word, number) = line.fields() else {
-        return None;
-    };
-    if !word.is_word(key) {
-        return None;
+    let value = field.number(*range.end())?;
+    (*range.start() <= value).then_some(value)
+}
+
+// The number after a key word, if it is in its range.
+fn count(line: Part, key: &[u8], range: RangeInclusive<u32>) -> Option<u32>
+    ensures { result ≡ count_of key.now (range_inclusive_start range) (range_inclusive_end range) (part_of line.entry) }
+{
+    match line.fields() {
+        Fields::Two(word, field) if word.is_word(key) => number(field, range),
+        _ => None,
     }
-    let value = number.number(most)?;
-    if least <= value { Some(value) } else { None }
 }
 
 fn count_line<'a>(
     rest: Part<'a>,
     key: &[u8],
-    least: u32,
-    most: u32,
+    range: RangeInclusive<u32>,
 ) -> Result<(u32, Part<'a>), LineFault>
-    ensures { seen_line same_value result ≡ line_by (count_of key.now least most) (part_of rest.entry) }
+    ensures { seen_line same_value result ≡ line_by (count_of key.now (range_inclusive_start range) (range_inclusive_end range)) (part_of rest.entry) }
 {
     let place = rest.place();
     let (line, after) = rest.line()?;
-    match count(line, key, least, most) {
-        Some(value) => Ok((value, after)),
-        None => Err(LineFault::Wrong { place }),
-    }
+    let value = count(line, key, range).ok_or(LineFault::Wrong { place })?;
+    Ok((value, after))
 }
 
-// The five lines of the contents, and what follows them.
-fn contents_lines<'a>(file: Part<'a>) -> Result<(Contents, Part<'a>), LineFault>
-    ensures { seen_line same_value result ≡ contents_of (part_of file.entry) }
-{
-    let (kind, rest) = first_line(file)?;
-    let (cards, rest) = count_line(rest, b"cards", 1, 6)?;
-    let (pile, rest) = first_line(rest)?;
-    let (notes, rest) = count_line(rest, b"notes", 0, 32)?;
-    let (events, rest) = count_line(rest, b"events", 0, 4096)?;
-    Ok((
-        Contents {
+impl Contents {
+    // The contents that stand first, and what follows them, or the first line that is wrong.
+    #[tactic(auto, using(crate::proofs::ContentsWhole::contents_say))]
+    pub fn read<'a>(file: Part<'a>) -> Result<(Contents, Part<'a>), LineFault>
+        ensures value { seen_line same_value result ≡ contents_of (part_of file.entry) }
+        ensures says { ContentsSays (part_of file.entry) (seen_line same_value result) }
+    {
+        let (kind, rest) = first_line(file)?;
+        let (cards, rest) = count_line(rest, b"cards", 1..=6)?;
+        let (pile, rest) = first_line(rest)?;
+        let (notes, rest) = count_line(rest, b"notes", 0..=32)?;
+        let (events, rest) = count_line(rest, b"events", 0..=4096)?;
+        let contents = Contents {
             kind,
             cards,
             pile,
             notes,
             events,
-        },
-        rest,
-    ))
-}
-
-impl Contents {
-    // The contents that stand first, and what follows them, or the first line that is wrong.
-    pub fn read<'a>(file: Part<'a>) -> Result<(Contents, Part<'a>), LineFault>
-        ensures value { seen_line same_value result ≡ contents_of (part_of file.entry) }
-        ensures says { ContentsSays (part_of file.entry) (seen_line same_value result) }
-    {
-        contents_lines(file)
+        };
+        Ok((contents, rest))
     }
 }

@@ -16,8 +16,10 @@ use text::fault::LineFault;
 fn manner(fault: FileFault) -> &'static str {
     match fault {
         FileFault::Contents(LineFault::Absent { .. })
-        | FileFault::Body(BodyFault::Notes(LineFault::Absent { .. }))
-        | FileFault::Body(BodyFault::Events(LineFault::Absent { .. })) => ", absent",
+        | FileFault::Body(
+            BodyFault::Notes(LineFault::Absent { .. })
+            | BodyFault::Events(LineFault::Absent { .. }),
+        ) => ", absent",
         _ => "",
     }
 }
@@ -59,7 +61,7 @@ fn report_table(rt: &HostRuntime) -> io::Result<()> {
         let line = line?;
         if let Some((name, quoted)) = line.as_str().split_once('"') {
             let file = unescaped(rt.alloc(), quoted.as_bytes())?;
-            report(rt, name.trim_end(), file.as_slice())?;
+            report(rt, name.trim_end(), &file)?;
         }
     }
     Ok(())
@@ -69,7 +71,7 @@ fn report_table(rt: &HostRuntime) -> io::Result<()> {
 fn report_cuts(rt: &HostRuntime) -> io::Result<()> {
     for n in 0..BASE.len() {
         let name = format!(in rt.alloc(); "cut at {n}")?;
-        report(rt, name.as_str(), &BASE[0..n])?;
+        report(rt, &name, &BASE[..n])?;
     }
     Ok(())
 }
@@ -79,42 +81,29 @@ fn report_spoiled(rt: &HostRuntime) -> io::Result<()> {
     for n in 0..BASE.len() {
         let name = format!(in rt.alloc(); "byte {n} spoiled")?;
         let file = spoiled(rt.alloc(), n)?;
-        report(rt, name.as_str(), file.as_slice())?;
+        report(rt, &name, &file)?;
     }
     Ok(())
 }
 
 fn report_long(rt: &HostRuntime) -> io::Result<()> {
-    let file = longest(rt.alloc())?;
+    let longest = longest(rt.alloc())?;
+    let file = longest.as_bytes();
     let length = file.len();
     println!(rt; "the longest good file has {length} bytes")?;
-    report(rt, "longest", file.as_bytes())?;
-    report(
-        rt,
-        "longest and one byte",
-        padded(rt.alloc(), file.as_bytes(), 1)?.as_slice(),
-    )?;
     let room = 65536usize.saturating_sub(length);
-    report(
-        rt,
-        "65536 bytes",
-        padded(rt.alloc(), file.as_bytes(), room)?.as_slice(),
-    )?;
-    report(
-        rt,
-        "65537 bytes",
-        padded(rt.alloc(), file.as_bytes(), room.saturating_add(1))?.as_slice(),
-    )?;
-    report(
-        rt,
-        "65536 bytes of surplus alone",
-        padded(rt.alloc(), b"", 65536)?.as_slice(),
-    )?;
-    report(
-        rt,
-        "65537 bytes of surplus alone",
-        padded(rt.alloc(), b"", 65537)?.as_slice(),
-    )
+    let cases = [
+        ("longest", file, 0),
+        ("longest and one byte", file, 1),
+        ("65536 bytes", file, room),
+        ("65537 bytes", file, room.saturating_add(1)),
+        ("65536 bytes of surplus alone", b"", 65536),
+        ("65537 bytes of surplus alone", b"", 65537),
+    ];
+    for (name, start, more) in cases {
+        report(rt, name, &padded(rt.alloc(), start, more)?)?;
+    }
+    Ok(())
 }
 
 fn main(rt: HostRuntime) -> io::Result<()> {

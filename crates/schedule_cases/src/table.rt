@@ -1,14 +1,7 @@
 // The table's way to write a file: \n is byte 10, \xNN a byte by two digits, \\ and \" themselves; a quote ends the file.
-use std::alloc::{AllocError, Global};
+ghost use Rattle.std.specs.Prelude.{◌<◌, length, IfSome};
 
-#[derive(Clone, Copy)]
-enum Escape {
-    Plain,
-    Slash,
-    First,
-    Second(u8),
-    Over,
-}
+use std::alloc::{AllocError, Global};
 
 fn digit(byte: u8) -> u8 {
     match byte {
@@ -18,34 +11,27 @@ fn digit(byte: u8) -> u8 {
     }
 }
 
-// What a byte means, if anything, and how it is read on.
-fn step(state: Escape, byte: u8) -> (Escape, Option<u8>) {
-    match state {
-        Escape::Plain => match byte {
-            b'\\' => (Escape::Slash, None),
-            b'"' => (Escape::Over, None),
-            _ => (Escape::Plain, Some(byte)),
-        },
-        Escape::Slash => match byte {
-            b'n' => (Escape::Plain, Some(b'\n')),
-            b'x' => (Escape::First, None),
-            _ => (Escape::Plain, Some(byte)),
-        },
-        Escape::First => (Escape::Second(digit(byte)), None),
-        Escape::Second(high) => (Escape::Plain, Some(((high & 15) << 4) | (digit(byte) & 15))),
-        Escape::Over => (Escape::Over, None),
+// The first byte that is meant before the quote, and what follows it.
+fn first_meant(quoted: &[u8]) -> Option<(u8, &[u8])>
+    ensures { IfSome result (λ r. length r.1.now < length quoted.now) }
+{
+    match quoted {
+        [b'\\', b'n', rest @ ..] => Some((b'\n', rest)),
+        [b'\\', b'x', high, low, rest @ ..] => {
+            Some((((digit(*high) & 15) << 4) | (digit(*low) & 15), rest))
+        }
+        [b'\\', byte, rest @ ..] => Some((*byte, rest)),
+        [] | [b'"', ..] => None,
+        [byte, rest @ ..] => Some((*byte, rest)),
     }
 }
 
-pub fn unescaped(heap: Global, quoted: &[u8]) -> Result<Vec<u8>, AllocError> {
+pub(crate) fn unescaped(heap: Global, quoted: &[u8]) -> Result<Vec<u8>, AllocError> {
     let mut out = Vec::new(heap);
-    let mut state = Escape::Plain;
-    for byte in quoted {
-        let (next, meant) = step(state, *byte);
-        state = next;
-        if let Some(value) = meant {
-            out.push(value)?;
-        }
+    let mut rest = quoted;
+    while let Some((byte, after)) = first_meant(rest) {
+        out.push(byte)?;
+        rest = after;
     }
     Ok(out)
 }

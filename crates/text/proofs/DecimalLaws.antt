@@ -83,5 +83,6 @@ numeral_back v h =
     ∙ ap (λ (n : ℕ). Some n) value
 
 pub reads : (bs : List ℕ) (r : Option ℕ) → r ≡ numeral bs → Reads bs r
+unfolding Reads
 reads bs None e = λ v h q. let z : None ≡ Some v = e ∙ ap numeral q ∙ numeral_back v h in absurd (grind arith)
 reads bs (Some v) e = numeral_only bs v (sym e)

@@ -1,5 +1,4 @@
 pub mod DecimalLaws
-pub mod DigitLaws
 pub mod CutLaws
 pub mod LineLaws
 pub mod FieldLaws

@@ -16,8 +16,7 @@ impl LineFault {
         ensures { result ≡ fault_place self }
     {
         match self {
-            LineFault::Absent { place } => place,
-            LineFault::Wrong { place } => place,
+            LineFault::Absent { place } | LineFault::Wrong { place } => place,
         }
     }
 }

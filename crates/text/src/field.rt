@@ -1,7 +1,6 @@
 // Fields of a line.
 ghost use Rattle.std.specs.Prelude.{◌≡◌};
 ghost use Rattle.std.specs.Option.{option_map};
-ghost use Rattle.std.specs.Str.{bytes_eq};
 ghost use Rattle.text.specs.Parts.{part_of};
 ghost use Rattle.text.specs.Fields.{field_of, fields_of, read_field, read_label, cut_fields, number_in, letter_in, is_word};
 
@@ -45,10 +44,7 @@ impl<'a> Part<'a> {
     pub fn label(self) -> Option<Field<'a>>
         ensures { option_map field_of result ≡ read_label (part_of self.entry) }
     {
-        match Label::new(self.bytes(), self.place()) {
-            Some(label) => Some(Field::Label(label)),
-            None => None,
-        }
+        Label::new(self.bytes(), self.place()).map(Field::Label)
     }
 
     // The fields that single spaces part.
@@ -81,9 +77,8 @@ impl Field<'_> {
         ensures { result ≡ number_in most (field_of self.entry) }
     {
         match self {
-            Field::Number(value) => if value <= most { Some(value) } else { None },
-            Field::Word(_) => None,
-            Field::Label(_) => None,
+            Field::Number(value) if value <= most => Some(value),
+            Field::Number(_) | Field::Word(_) | Field::Label(_) => None,
         }
     }
 
@@ -96,8 +91,7 @@ impl Field<'_> {
                 [byte] => Some(char::from(*byte)),
                 _ => None,
             },
-            Field::Number(_) => None,
-            Field::Label(_) => None,
+            Field::Number(_) | Field::Label(_) => None,
         }
     }
 
@@ -105,16 +99,6 @@ impl Field<'_> {
     pub fn is_word(self, word: &[u8]) -> bool
         ensures { result ≡ is_word word.now (field_of self.entry) }
     {
-        match self {
-            Field::Word(part) => same(part.bytes(), word),
-            Field::Number(_) => false,
-            Field::Label(_) => false,
-        }
+        matches!(self, Field::Word(part) if part.bytes() == word)
     }
-}
-
-fn same(bytes: &[u8], word: &[u8]) -> bool
-    ensures { result ≡ bytes_eq bytes.now word.now }
-{
-    bytes == word
 }

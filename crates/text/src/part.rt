@@ -1,5 +1,5 @@
 // Parts of a file, and cutting them: at a byte, and into lines.
-ghost use Rattle.std.specs.Prelude.{◌≡◌, ◌≤◌, length, ◌==◌};
+ghost use Rattle.std.specs.Prelude.{◌≡◌, ◌≤◌, length, position, ◌==◌};
 ghost use Rattle.std.specs.Option.{option_map};
 ghost use Rattle.text.specs.Parts.{part_of, place_of, up_to, whole_of, before, after, both_of, line_of};
 
@@ -47,22 +47,13 @@ impl<'a> Part<'a> {
         ensures front { part_of result.0 ≡ before stop (part_of self.entry) }
         ensures back { option_map part_of result.1 ≡ after stop (part_of self.entry) }
     {
-        let n = up_to(self.bytes, stop);
-        let (front, back) = self.bytes.split_at(n);
+        let (front, back) = self.bytes.split_at(up_to(self.bytes, stop));
         let first = Part {
             bytes: front,
             end: self.end.saturating_sub(back.len()),
         };
-        match back.split_first() {
-            Some((_, rest)) => (
-                first,
-                Some(Part {
-                    bytes: rest,
-                    end: self.end,
-                }),
-            ),
-            None => (first, None),
-        }
+        let rest = back.split_first().map(|(_, bytes)| Part { bytes, ..self });
+        (first, rest)
     }
 
     // The first line, without the byte that ends it, and what follows.
@@ -72,24 +63,24 @@ impl<'a> Part<'a> {
         let place = self.place();
         match self.cut(b'\n') {
             (line, Some(rest)) => Ok((line, rest)),
-            (_, None) => Err(if self.is_empty() {
-                LineFault::Absent { place }
-            } else {
-                LineFault::Wrong { place }
-            }),
+            (_, None) if self.is_empty() => Err(LineFault::Absent { place }),
+            (_, None) => Err(LineFault::Wrong { place }),
         }
     }
 }
 
+// The place of the first byte `stop`.
+fn first(bytes: &[u8], stop: u8) -> Option<usize>
+    ensures { result ≡ position (λ b. b == stop) bytes.now }
+{
+    bytes.iter().position(|byte| *byte == stop)
+}
+
 // How many bytes stand before the first byte `stop`, or all of them where it does not stand there.
+#[tactic(auto, using(crate::proofs::CutLaws::up_to_le, crate::proofs::CutLaws::up_to_position))]
 fn up_to(bytes: &[u8], stop: u8) -> usize
     ensures value { result ≡ up_to stop bytes.now }
     ensures within { result ≤ length bytes.now }
 {
-    for (i, byte) in bytes.iter().enumerate() {
-        if *byte == stop {
-            return i;
-        }
-    }
-    bytes.len()
+    first(bytes, stop).unwrap_or(bytes.len())
 }

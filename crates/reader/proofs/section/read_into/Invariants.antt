@@ -1,7 +1,7 @@
 use Rattle.std.proofs.Common.{◌≡◌, ◌+◌, ◌-◌, ◌≤◌, map, vec_items, vec_len, vec_capacity}
 use Rattle.text.specs.Parts.{part_of}
 use Rattle.entries.specs.Lines.{lines_of, lines_after}
-use Rattle.reader.proofs.section.read_lines.Given as goal
+use Rattle.reader.proofs.section.read_into.Given as goal
 
 abbrev pub invariant-loop-i : goal.invariant-loop-i
 invariant-loop-i g l =
