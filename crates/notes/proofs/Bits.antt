@@ -7,6 +7,7 @@ use lib.Pow.{pow-lt, shl-shr}
 use Rattle.std.proofs.lemmas.Bool.{cases_order, cases_Bool, ltb-true, ltb-false}
 use Rattle.std.proofs.lemmas.Bool.Decides.{nat_tests}
 use Rattle.notes.specs.Sets.{has, added, minus, how_many}
+use Rattle.notes.proofs.Counting.{count_first, count_same}
 
 -- No note in the empty set.
 pub has_none : (m : ℕ) → has 0 m ≡ false
@@ -104,14 +105,6 @@ same_sets s t h =
     same_below (s + t) s t (omega arith) (omega arith) h
 
 -- The count of ones is the number of notes held.
-count_first : (f : ℕ → Bool) (n : ℕ) → how_many f (suc n) ≡ cond (f 0) 1 0 + how_many (λ m. f (suc m)) n
-count_first f zero = omega arith
-count_first f (suc n) = let e = count_first f n in omega arith
-
-count_same : (f g : ℕ → Bool) (n : ℕ) → ((m : ℕ) → f m ≡ g m) → how_many f n ≡ how_many g n
-count_same f g zero h = refl
-count_same f g (suc n) h = cc (count_same f g n h, h n)
-
 pub ones_count : (k s : ℕ) → s < 2 ^ k → ones s ≡ how_many (has s) k
 unfolding ones
 ones_count zero s h = let z : s ≡ 0 = omega arith in ap ones z
