@@ -11,6 +11,7 @@ use notes::kind::Kind;
 use parts::broadcast::Broadcast;
 use parts::consensus::Consensus;
 use std::alloc::{AllocError, Global};
+use std::array;
 
 impl<B: Broadcast + Drop, C: Consensus + Drop> Carrier<B, C> {
     // A number of cards above 6 makes none, and so does a book above 32 notes. Only here memory can be wanting.
@@ -33,7 +34,7 @@ impl<B: Broadcast, C: Consensus> Carrier<B, C> {
             broadcast,
             consensus,
             ranking,
-            logs: [Log::new(); 6],
+            logs: array::from_fn(|_| Log::new()),
             instances: [0; 6],
             steps: 0,
         }

@@ -157,9 +157,7 @@ impl<B: Broadcast, C: Consensus> Carrier<B, C> {
         ensures instances { (model B.Broadcast C.Consensus self.new).instances ≡ (model B.Broadcast C.Consensus self.old).instances }
         ensures steps { (model B.Broadcast C.Consensus self.new).steps ≡ (model B.Broadcast C.Consensus self.old).steps }
     {
-        let mut log = self.logs[card];
-        log.append(&self.ranking, decided);
-        self.logs[card] = log;
+        self.logs[card].append(&self.ranking, decided);
     }
 }
 
