@@ -3,7 +3,8 @@
 
 ghost use Rattle.std.specs.Prelude.{◌≡◌, true, if◌then◌else◌, Some, None};
 ghost use Rattle.std.specs.Option.{option_map};
-ghost use Rattle.labels.specs.Order.{is_label, printable, all_printable, label_before};
+ghost use Rattle.std.specs.List.{list_all};
+ghost use Rattle.labels.specs.Order.{is_label, printable, label_before};
 ghost use Rattle.labels.specs.Order.{label_of};
 
 // One to eight bytes of 32 to 126, and their place in the caller's text. Only `new` makes one.
@@ -15,10 +16,11 @@ pub struct Label<'a> {
 
 impl<'a> Label<'a> {
     // The label of these bytes, which stand at `place` in the caller's text; no label where they are not one to eight bytes of 32 to 126.
+    #[tactic(auto, using(crate::proofs::Order::each_printable))]
     pub fn new(bytes: &'a [u8], place: usize) -> Option<Label<'a>>
         ensures { option_map label_of result ≡ (if is_label bytes.now then Some (bytes.now, place) else None) }
     {
-        if !bytes.is_empty() && bytes.len() <= 8 && all_printable(bytes) {
+        if (1..=8).contains(&bytes.len()) && all_printable(bytes) {
             Some(Label {
                 text: bytes,
                 at: place,
@@ -35,10 +37,11 @@ impl<'a> Label<'a> {
     }
 
     // Whether it may stand before the other label: byte by byte from the left, a beginning before the longer.
+    #[tactic(auto, using(crate::proofs::Order::slice_order))]
     pub fn may_stand_before(&self, other: &Label<'a>) -> bool
         ensures { result ≡ label_before (label_of self.now).0 (label_of other.now).0 }
     {
-        at_most(self.bytes(), other.bytes())
+        self.bytes() <= other.bytes()
     }
 
     // Where its first byte stands in the caller's text.
@@ -49,29 +52,8 @@ impl<'a> Label<'a> {
     }
 }
 
-fn is_printable(byte: u8) -> bool
-    ensures { result ≡ printable byte }
-{
-    32 <= byte && byte <= 126
-}
-
 fn all_printable(bytes: &[u8]) -> bool
-    ensures { result ≡ all_printable bytes.now }
+    ensures { result ≡ list_all printable bytes.now }
 {
-    let Some((first, rest)) = bytes.split_first() else {
-        return true;
-    };
-    is_printable(*first) && all_printable(rest)
-}
-
-fn at_most(bytes: &[u8], other: &[u8]) -> bool
-    ensures { result ≡ label_before bytes.now other.now }
-{
-    let Some((first, rest)) = bytes.split_first() else {
-        return true;
-    };
-    let Some((other_first, other_rest)) = other.split_first() else {
-        return false;
-    };
-    *first < *other_first || (*first == *other_first && at_most(rest, other_rest))
+    bytes.iter().all(|byte| (32..=126).contains(byte))
 }

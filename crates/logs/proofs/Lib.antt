@@ -1,5 +1,4 @@
 pub mod Batches
 mod Counts
 pub mod Lowest
-mod Placed
 mod Rankings

@@ -4,9 +4,10 @@ use native.Mathlib.Nat.{div-eq_of_lt, div_self}
 use lib.Bits.{bit_and, bit_or, bit_xor, and_shr, and_step, or_shr, or_step, xor_shr, xor_add_and}
 use lib.Count.{ones, ones_step, count_trailing_zeros, under}
 use lib.Pow.{pow-lt, shl-shr}
-use Rattle.std.proofs.lemmas.Bool.{cases_order, cases_Bool, ltb-false}
+use Rattle.std.proofs.lemmas.Bool.{cases_order, cases_Bool, ltb-true, ltb-false}
 use Rattle.std.proofs.lemmas.Bool.Decides.{nat_tests}
 use Rattle.notes.specs.Sets.{has, added, minus, how_many}
+use Rattle.notes.proofs.Counting.{count_first, count_same}
 
 -- No note in the empty set.
 pub has_none : (m : ℕ) → has 0 m ≡ false
@@ -104,14 +105,6 @@ same_sets s t h =
     same_below (s + t) s t (omega arith) (omega arith) h
 
 -- The count of ones is the number of notes held.
-count_first : (f : ℕ → Bool) (n : ℕ) → how_many f (suc n) ≡ cond (f 0) 1 0 + how_many (λ m. f (suc m)) n
-count_first f zero = omega arith
-count_first f (suc n) = let e = count_first f n in omega arith
-
-count_same : (f g : ℕ → Bool) (n : ℕ) → ((m : ℕ) → f m ≡ g m) → how_many f n ≡ how_many g n
-count_same f g zero h = refl
-count_same f g (suc n) h = cc (count_same f g n h, h n)
-
 pub ones_count : (k s : ℕ) → s < 2 ^ k → ones s ≡ how_many (has s) k
 unfolding ones
 ones_count zero s h = let z : s ≡ 0 = omega arith in ap ones z
@@ -125,7 +118,7 @@ ones_count (suc k) s h =
     grind (arith, nat_tests, e, r, f, b, o)
 
 -- The number of trailing zeros is the lowest note.
-abbrev Lowest : ℕ → ℕ → ℕ → Type 0
+abbrev pub Lowest : ℕ → ℕ → ℕ → Type 0
 Lowest k s t = (t < k) × (has s t ≡ true) × ((m : ℕ) → m < t → has s m ≡ false)
 
 even_lowest : (k s t : ℕ) → s % 2 ≡ 0 → Lowest k (s / 2) t → Lowest (suc k) s (suc t)
@@ -145,3 +138,46 @@ zeros_lowest zero s h n = absurd (omega arith)
 zeros_lowest (suc k) s h n =
     let p = pow-suc 2 k in
     by_lowest_bit k s (s % 2) (count_trailing_zeros k (s / 2)) refl (λ e. zeros_lowest k (s / 2) (omega arith) (λ z. n (omega arith)))
+
+-- What the methods of a set rest on.
+pub has_note : (s m : ℕ) → s < 2 ^ 32 → has s m ≡ (ltb m 32 && eqb (s / 2 ^ m % 2) 1)
+has_note s m h = has_bit 32 s m h
+
+pub with_note : (s m k : ℕ) → m < 32 → has (bit_or s (1 * 2 ^ m % 4294967296)) k ≡ (has s k || eqb k m)
+with_note s m k h =
+    let p : 2 ^ m < 2 ^ 32 = pow-lt h in
+    let e : 1 * 2 ^ m % 4294967296 ≡ 2 ^ m = omega arith in
+    ap (λ t. has (bit_or s t) k) e ∙ has_single_more s m k
+
+pub count_notes : (s : ℕ) → s < 2 ^ 32 → ones s ≡ how_many (has s) 32
+count_notes s h = ones_count 32 s h
+
+pub some_note : (s : ℕ) → s < 2 ^ 32 → (s ≡ 0 → ⊥) → (m : ℕ) × (has s m ≡ true)
+some_note s h n = (count_trailing_zeros 32 s, (zeros_lowest 32 s h n).1)
+
+pub lowest_note : (s : ℕ) → s < 2 ^ 32 → (s ≡ 0 → ⊥) → Lowest 32 s (count_trailing_zeros 32 s)
+lowest_note s h n = zeros_lowest 32 s h n
+
+-- The notes that a set of notes lacks.
+has_not : (k t m : ℕ) → t < 2 ^ k → m < k → has (2 ^ k - 1 - t) m ≡ not (has t m)
+has_not zero t m h l = absurd (omega arith)
+has_not (suc k) t zero h l =
+    let p = pow-suc 2 k in
+    let a = lowest_bit (2 ^ suc k - 1 - t) in
+    let b = lowest_bit t in
+    let c : (2 ^ suc k - 1 - t) % 2 + t % 2 ≡ 1 = omega arith in
+    grind (arith, nat_tests, a, b, c)
+has_not (suc k) t (suc m) h l =
+    let p = pow-suc 2 k in
+    let e : (2 ^ suc k - 1 - t) / 2 ≡ 2 ^ k - 1 - t / 2 = omega arith in
+    sym (has_half (2 ^ suc k - 1 - t) m) ∙ ap (λ s. has s m) e ∙ has_not k (t / 2) m (omega arith) (omega arith) ∙ ap not (has_half t m)
+
+pub without_notes : (s t : ℕ) → s < 2 ^ 32 → t < 2 ^ 32 → bit_and s (4294967295 - t) ≡ minus s t
+without_notes s t hs ht = same_sets _ _ (λ m. has_both s (4294967295 - t) m ∙ at m ∙ sym (has_minus s t m))
+  where
+    at : (m : ℕ) → (has s m && has (4294967295 - t) m) ≡ (has s m && not (has t m))
+    at m =
+        ⊎_elim
+        (λ l. ap (λ b. has s m && b) (has_not 32 t m ht (ltb-true m 32 l)))
+        (λ l. let e = has_above 32 s m hs (ltb-false m 32 l) in grind (arith, nat_tests, e))
+        (cases_Bool (ltb m 32))

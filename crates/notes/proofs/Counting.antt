@@ -1,8 +1,17 @@
 -- Counting the numbers that pass a test, and the pigeonhole that comes of it.
-use Rattle.std.proofs.Common.{◌≡◌, ℕ, zero, suc, ◌+◌, ◌<◌, ◌≤◌, Bool, true, false, cond, eqb, ◌⊎◌, sym, refl, ap, ◌∙◌, inl, inr, ⊎_elim, add-one, arith}
+use Rattle.std.proofs.Common.{◌≡◌, ℕ, zero, suc, ◌+◌, ◌<◌, ◌≤◌, Bool, true, false, cond, eqb, ◌⊎◌, sym, refl, ap, ◌∙◌, inl, inr, ⊎_elim, arith}
 use Rattle.std.proofs.lemmas.Bool.{cases_Bool, eqb-true, eqb-false}
 use Rattle.std.proofs.lemmas.Bool.Decides.{nat_tests}
 use Rattle.notes.specs.Sets.{how_many}
+
+-- The first number apart from the others; and two tests that agree.
+pub count_first : (f : ℕ → Bool) (n : ℕ) → how_many f (suc n) ≡ cond (f 0) 1 0 + how_many (λ m. f (suc m)) n
+count_first f zero = omega arith
+count_first f (suc n) = let e = count_first f n in omega arith
+
+pub count_same : (f g : ℕ → Bool) (n : ℕ) → ((m : ℕ) → f m ≡ g m) → how_many f n ≡ how_many g n
+count_same f g zero h = refl
+count_same f g (suc n) h = cc (count_same f g n h, h n)
 
 -- What passes the first test passes the second.
 abbrev Implies : (ℕ → Bool) → (ℕ → Bool) → ℕ → Type 0
@@ -30,10 +39,6 @@ count_all (suc n) = let rest = count_all n in omega arith
 -- Where one does not pass, not all pass.
 pub count_short : (f : ℕ → Bool) (n k : ℕ) → k < n → f k ≡ false → how_many f n < n
 count_short f n k l fails = let all = count_all n in let less = count_lt f (λ _. true) n k (λ _ _ _. refl) l fails refl in omega arith
-
--- One number more, which passes or not.
-pub count_more : (f : ℕ → Bool) (i n m : ℕ) → n ≡ how_many f i → m ≡ n + cond (f i) 1 0 → m ≡ how_many f (i + 1)
-count_more f i n m e g = rw add-one (omega arith)
 
 -- No two numbers below n go to the same.
 abbrev pub Apart : (ℕ → ℕ) → ℕ → Type 0

@@ -4,7 +4,7 @@ ghost use Rattle.std.proofs.Common.{rules};
 
 use crate::kind::Kind;
 
-#[derive(Clone, Copy, PartialEq, Eq, Debug)]
+#[derive(Clone, Copy, PartialEq, Eq, PartialOrd, Ord, Debug)]
 pub struct Wear {
     pub block: u32,
     pub erases: u32,
@@ -18,6 +18,6 @@ impl Kind for Wear {
     ghost transitive = { Prim.search rules };
 
     fn may_precede(&self, other: &Wear) -> bool {
-        self.block < other.block || (self.block == other.block && self.erases <= other.erases)
+        self <= other
     }
 }

@@ -1,6 +1,7 @@
 use notes::label::Label;
 use notes::ranking::rank;
 use notes::wear::Wear;
+use std::array;
 use std::test::Fail;
 
 const UNSET: usize = 99;
@@ -31,10 +32,7 @@ fn no_note_and_one_note(rt: HostRuntime) -> Result<(), Fail> {
 
 #[test]
 fn thirty_two_notes_downwards(rt: HostRuntime) -> Result<(), Fail> {
-    let mut notes = [wear(0, 0); 32];
-    for (i, note) in notes.iter_mut().enumerate() {
-        *note = wear(1000 - (i % 32) as u32, 0);
-    }
+    let notes: [Wear; 32] = array::from_fn(|i| wear(1000 - i as u32, 0));
     let mut places = [UNSET; 32];
     rank(&notes, &mut places)?;
     assert!(rt; places[0] == 31 && places[15] == 16 && places[31] == 0);

@@ -4,7 +4,7 @@ use logs::log::Log;
 use logs::ranking::Ranking;
 
 // Where a card has come to: its log, and the instance of consensus in which it takes next.
-#[derive(Clone, Copy, Drop)]
+#[derive(Drop)]
 struct Progress {
     log: Log,
     instance: usize,

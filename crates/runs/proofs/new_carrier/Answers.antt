@@ -18,6 +18,6 @@ pub returns : goal.returns
 returns g c =
     let b = g.B.Broadcast in
     let d = g.C.Consensus in
-    let book = c.args.book.now in
-    let s = fresh b d (cards_of c.args.cards (length book)) (in_ranking_order g.K.Kind.precedes book) in
+    let book = c.args.script.now.book.now in
+    let s = fresh b d (cards_of c.args.script.now.cards (length book)) (in_ranking_order g.K.Kind.precedes book) in
     record { fresh = c.new.ensures.fresh; ranked = ranked b d g.K.Kind.precedes book s c.new.result c.new.ensures.fresh c.new.ensures.ranked }

@@ -11,6 +11,7 @@ use notes::kind::Kind;
 use parts::broadcast::Broadcast;
 use parts::consensus::Consensus;
 use std::alloc::{AllocError, Global};
+use std::array;
 
 impl<B: Broadcast + Drop, C: Consensus + Drop> Carrier<B, C> {
     // A number of cards above 6 makes none, and so does a book above 32 notes. Only here memory can be wanting.
@@ -25,10 +26,10 @@ impl<B: Broadcast + Drop, C: Consensus + Drop> Carrier<B, C> {
             broadcast,
             consensus,
             ranking: Ranking::new(book),
-            cards: [Progress {
+            cards: array::from_fn(|_| Progress {
                 log: Log::new(),
                 instance: 0,
-            }; 6],
+            }),
             steps: 0,
         })
     }
