@@ -8,7 +8,6 @@ use tables::posters::Posters;
 use wire::Wire;
 
 pub mod broadcast;
-pub mod steps;
 
 // A wire's load is the note.
 #[derive(Drop)]

@@ -1,2 +1,3 @@
+pub mod Known
 pub mod Lists
 pub mod Nets

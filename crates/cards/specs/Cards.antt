@@ -1,5 +1,6 @@
 -- The cards of a part: what their state holds, and what a crash and a suspicion make of it.
-use Rattle.std.specs.Prelude.{◌≡◌, ℕ, ◌<◌, ◌≤◌, Bool, true, false, cond, List, [], length, replicate, nat_lt, slice_index_or, slice_set}
+use Rattle.std.specs.Prelude.{◌≡◌, ℕ, ◌<◌, ◌≤◌, Bool, true, false, cond, not, ◌||◌, List, [], map, length, replicate, nat_lt, slice_index_or, slice_set}
+use Rattle.std.specs.List.{list_all, range_with_len}
 use Rattle.parts.specs.Views.{Net}
 use Rattle.cards.specs.declared.Cards.{Cards}
 
@@ -10,7 +11,7 @@ pub record CardState : Type 0 where
   pub suspicions : List (List Bool)
 
 abbrev pub cards_of : Cards → CardState
-cards_of c = record { count = c.size; crashed = c.crashed; suspicions = c.suspected }
+cards_of c = record { count = c.size; crashed = map (λ k. k.crashed) c.cards; suspicions = map (λ k. k.suspects) c.cards }
 
 abbrev pub crashed_in : CardState → ℕ → Bool
 crashed_in c p = slice_index_or c.crashed p false
@@ -31,6 +32,13 @@ with_suspicion c q p = record { count = c.count; crashed = c.crashed; suspicions
 -- What a part shows of its cards, with the senders of its wire and its work.
 abbrev pub net_of : CardState → List ℕ → ℕ → Net
 net_of c wire work = record { cards = c.count; crashed = crashed_in c; suspects = suspects_in c; wire = wire; work = work }
+
+-- Card q, if it runs, suspects card p, if that has crashed.
+abbrev pub knows : CardState → ℕ → ℕ → Bool
+knows c q p = crashed_in c q || not (crashed_in c p) || suspects_in c q p
+
+abbrev pub knows_all : CardState → ℕ → Bool
+knows_all c q = list_all (knows c q) (range_with_len 0 c.count)
 
 -- Every running card suspects every crashed one.
 abbrev pub AllSuspected : CardState → Type 0

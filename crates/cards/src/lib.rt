@@ -1,17 +1,20 @@
 #![tactic(auto)]
 
-ghost use Rattle.std.specs.Prelude.{◌≡◌, ℕ, ◌<◌, ◌≤◌, [], length, slice_index_or};
+ghost use Rattle.std.specs.Prelude.{◌≤◌};
 
 pub mod methods;
 
-// The cards of a part: how many there are, which have crashed, and who suspects whom (the suspecting card first).
+// What is known of one card: whether it has crashed, and whom it suspects.
+#[derive(Clone, Copy)]
+struct Card {
+    crashed: bool,
+    suspects: [bool; 6],
+}
+
+// The cards of a part, of which the first `size` are there.
 #[derive(Drop)]
 pub struct Cards {
     size: usize,
-    crashed: [bool; 6],
-    suspected: [[bool; 6]; 6],
+    cards: [Card; 6],
     ghost few: { size ≤ 6 },
-    ghost crashes: { length crashed ≡ 6 },
-    ghost rows: { length suspected ≡ 6 },
-    ghost row: { (q : ℕ) → q < 6 → length (slice_index_or suspected q []) ≡ 6 },
 }

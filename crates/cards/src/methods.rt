@@ -1,8 +1,8 @@
-ghost use Rattle.std.specs.Prelude.{◌≡◌, [], is_ok, if◌then◌else◌, Decides};
-ghost use Rattle.parts.specs.Refusals.{crash_answer, suspect_answer};
-ghost use Rattle.cards.specs.Cards.{cards_of, crashed_in, suspects_in, new_cards, with_crash, with_suspicion, net_of, AllSuspected};
+ghost use Rattle.std.specs.Prelude.{◌≡◌, [], is_ok, if◌then◌else◌, Decides, Ok};
+ghost use Rattle.parts.specs.Refusals.{acting_answer, crash_answer, suspect_answer};
+ghost use Rattle.cards.specs.Cards.{cards_of, crashed_in, suspects_in, new_cards, with_crash, with_suspicion, net_of, knows, knows_all, AllSuspected};
 
-use super::Cards;
+use super::{Card, Cards};
 use parts::refusal::Refusal;
 
 impl Cards {
@@ -12,8 +12,10 @@ impl Cards {
     {
         Cards {
             size: if count > 6 { 0 } else { count },
-            crashed: [false; 6],
-            suspected: [[false; 6]; 6],
+            cards: [Card {
+                crashed: false,
+                suspects: [false; 6],
+            }; 6],
         }
     }
 
@@ -26,33 +28,43 @@ impl Cards {
     pub fn has_crashed(&self, card: usize) -> bool
         ensures { result ≡ crashed_in (cards_of self.now) card }
     {
-        card < 6 && self.crashed[card]
+        self.cards.get(card).is_some_and(|known| known.crashed)
+    }
+
+    // Whether the card may act: it is one of the cards, and runs.
+    pub fn acting(&self, card: usize) -> Result<(), Refusal>
+        ensures { result ≡ acting_answer (net_of (cards_of self.now) [] 0) card (Ok tt) }
+    {
+        if card >= self.count() {
+            return Err(Refusal::NoSuchCard);
+        }
+        if self.has_crashed(card) {
+            return Err(Refusal::CardCrashed);
+        }
+        Ok(())
     }
 
     pub fn suspects(&self, who: usize, whom: usize) -> bool
         ensures { result ≡ suspects_in (cards_of self.now) who whom }
     {
-        if who < 6 && whom < 6 {
-            self.suspected[who][whom]
-        } else {
-            false
-        }
+        self.cards
+            .get(who)
+            .and_then(|known| known.suspects.get(whom))
+            .copied()
+            .unwrap_or(false)
     }
 
+    #[tactic(auto, using(crate::proofs::Known::crash_written, crate::proofs::Known::crash_apart))]
     pub fn crash(&mut self, card: usize) -> Result<(), Refusal>
         ensures answer { result ≡ crash_answer (net_of (cards_of self.old) [] 0) card }
         ensures after { cards_of self.new ≡ (if is_ok result then with_crash (cards_of self.old) card else cards_of self.old) }
     {
-        if card >= self.count() {
-            return Err(Refusal::NoSuchCard);
-        }
-        if self.crashed[card] {
-            return Err(Refusal::CardCrashed);
-        }
-        self.crashed[card] = true;
+        self.acting(card)?;
+        self.cards[card].crashed = true;
         Ok(())
     }
 
+    #[tactic(auto, using(crate::proofs::Known::suspicion_written, crate::proofs::Known::suspicion_apart))]
     pub fn suspect(&mut self, by: usize, card: usize) -> Result<(), Refusal>
         ensures answer { result ≡ suspect_answer (net_of (cards_of self.old) [] 0) by card }
         ensures after { cards_of self.new ≡ (if is_ok result then with_suspicion (cards_of self.old) by card else cards_of self.old) }
@@ -60,13 +72,13 @@ impl Cards {
         if by >= self.count() || card >= self.count() {
             return Err(Refusal::NoSuchCard);
         }
-        if self.crashed[by] {
+        if self.has_crashed(by) {
             return Err(Refusal::CardCrashed);
         }
-        if !self.crashed[card] {
+        if !self.has_crashed(card) {
             return Err(Refusal::CardRuns);
         }
-        self.suspected[by][card] = true;
+        self.cards[by].suspects[card] = true;
         Ok(())
     }
 
@@ -74,13 +86,19 @@ impl Cards {
     pub fn all_suspected(&self) -> bool
         ensures { Decides result (AllSuspected (cards_of self.now)) }
     {
-        for q in 0..self.count() {
-            for p in 0..self.count() {
-                if !self.crashed[q] && self.crashed[p] && !self.suspected[q][p] {
-                    return false;
-                }
-            }
-        }
-        true
+        (0..self.count()).all(|who| self.knows_all(who))
+    }
+
+    // Whether the card, if it runs, suspects every crashed one.
+    fn knows_all(&self, who: usize) -> bool
+        ensures { result ≡ knows_all (cards_of self.now) who }
+    {
+        (0..self.count()).all(|whom| self.knows(who, whom))
+    }
+
+    fn knows(&self, who: usize, whom: usize) -> bool
+        ensures { result ≡ knows (cards_of self.now) who whom }
+    {
+        self.has_crashed(who) || !self.has_crashed(whom) || self.suspects(who, whom)
     }
 }

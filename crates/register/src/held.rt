@@ -1,5 +1,3 @@
-ghost use Rattle.std.specs.Prelude.{◌≡◌, length};
-
 use notes::set::NoteSet;
 
 pub mod methods;
@@ -8,5 +6,4 @@ pub mod methods;
 #[derive(Drop)]
 pub struct Held {
     sets: [Option<NoteSet>; 32],
-    ghost instances: { length sets ≡ 32 },
 }

@@ -8,12 +8,12 @@ use tables::ballots::Ballots;
 use wire::Wire;
 
 pub mod consensus;
-pub mod steps;
 
 // A wire's load is the instance.
 #[derive(Drop)]
 pub struct Register {
     cards: Cards,
+    // Two tables and not one of pairs: a proposal is written as in flooding, which decides elsewhere.
     proposals: Ballots,
     decisions: Ballots,
     held: Held,

@@ -1,5 +1,5 @@
 -- How many posts and proposals are still to come, as one is made.
-use Rattle.std.proofs.Common.{◌≡◌, ℕ, zero, suc, ◌+◌, ◌<◌, false, List, [], ◌∷◌, map, length, get_or, set, is_some, Some, None, Option, sym, ap, ◌∙◌, arith}
+use Rattle.std.proofs.Common.{◌≡◌, ℕ, zero, suc, ◌+◌, ◌<◌, false, List, [], ◌∷◌, map, length, get_or, set, is_some, Some, None, Option, sym, refl, ap, ◌∙◌, arith}
 use borrow.Author.Tests.{clash}
 use Rattle.std.specs.Option.{option_map}
 use Rattle.std.proofs.lemmas.List.{length-map}
@@ -25,3 +25,10 @@ ballots_length t = length-map t.rows (map (option_map bits)) ∙ t.instances
 
 pub ballots_row : (t : Ballots) (k : ℕ) → k < 32 → length (get_or (ballots_of t) k []) ≡ 6
 ballots_row t k h = ap length (get_d_map_at (map (option_map bits)) t.rows k []) ∙ length-map (get_or t.rows k []) (option_map bits) ∙ t.row k h
+
+pub one_less_proposal : (t : Ballots) (k p s : ℕ) → k < 32 → p < 6 → is_some (ballot_in (ballots_of t) k p) ≡ false → free_ballots (with_ballot (ballots_of t) k p (Some s)) + 1 ≡ free_ballots (ballots_of t)
+one_less_proposal t k p s h l e = one_less_ballot (ballots_of t) k p s (omega (arith, ballots_length t)) (omega (arith, ballots_row t k h)) e
+
+pub some_mapped : {X Y : Type 0} (f : X → Y) (o : Option X) → is_some (option_map f o) ≡ is_some o
+some_mapped f None = refl
+some_mapped f (Some x) = refl

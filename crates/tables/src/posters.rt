@@ -1,10 +1,7 @@
-ghost use Rattle.std.specs.Prelude.{◌≡◌, length};
-
 pub mod methods;
 
 // Who has posted each note, if anyone.
 #[derive(Drop)]
 pub struct Posters {
     by: [Option<usize>; 32],
-    ghost notes: { length by ≡ 32 },
 }

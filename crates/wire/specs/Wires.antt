@@ -48,12 +48,3 @@ module _ {P : Type 0} where
   -- What is left when the items addressed to card p leave.
   abbrev pub without_to : ℕ → List (Item P) → List (Item P)
   without_to p xs = filter (elsewhere p) xs
-
-  -- The first item goes to the end, unless it is addressed to card p: then it leaves.
-  abbrev pub turned : ℕ → List (Item P) → List (Item P)
-  turned p [] = []
-  turned p (x ∷ xs) = cond (elsewhere p x) (xs ++ x ∷ []) xs
-
-  abbrev pub turned_times : ℕ → ℕ → List (Item P) → List (Item P)
-  turned_times p zero xs = xs
-  turned_times p (suc k) xs = turned p (turned_times p k xs)

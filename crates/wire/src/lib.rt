@@ -1,11 +1,11 @@
 #![tactic(auto)]
 
-ghost use Rattle.std.specs.Prelude.{◌≡◌, ℕ, ◌+◌, ◌<◌, ◌≤◌, false, List, [], ◌++◌, length, is_ok, is_some, IfOk, if◌then◌else◌, nat_lt, slice_index_or};
+ghost use Rattle.std.specs.Prelude.{◌≡◌, ◌+◌, ◌≤◌, false, [], ◌++◌, length, is_ok, is_some, IfOk, if◌then◌else◌, nat_lt, slice_index_or};
 ghost use Rattle.std.specs.List.{slice_get, remove};
 ghost use Rattle.std.specs.Option.{unwrap_or};
 ghost use Rattle.parts.specs.Refusals.{lose_answer};
 ghost use Rattle.cards.specs.Cards.{cards_of, net_of};
-ghost use Rattle.wire.specs.Wires.{items_of, room_of, item as item_of, senders, joined, goes_to, sending, sent, without_to, turned, turned_times};
+ghost use Rattle.wire.specs.Wires.{items_of, room_of, senders, joined, sending, sent, without_to};
 
 use cards::Cards;
 use parts::refusal::Refusal;
@@ -35,11 +35,12 @@ impl<P: Copy> Wire<P> {
         Ok(Wire { items })
     }
 
+    #[tactic(auto, using(crate::proofs::Wires::deque_length, crate::proofs::Wires::length_senders))]
     pub fn len(&self) -> usize
         ensures items { result ≡ length (items_of self.now) }
         ensures senders { result ≡ length (senders (items_of self.now)) }
     {
-        self.counted()
+        self.items.len()
     }
 
     // The sender of an item, if there is such an item.
@@ -48,14 +49,14 @@ impl<P: Copy> Wire<P> {
         ensures there { is_some result ≡ nat_lt item (length (senders (items_of self.now))) }
         ensures sender { unwrap_or result 7 ≡ slice_index_or (senders (items_of self.now)) item 7 }
     {
-        self.look(item)
+        self.items.get(item).map(|found| found.from)
     }
 
     // The item at a place, if there is one; it stays on the wire.
     pub fn get(&self, item: usize) -> Option<Item<P>>
         ensures { result ≡ slice_get (items_of self.now) item }
     {
-        self.peek(item)
+        self.items.get(item).copied()
     }
 
     // An item that finds no room does not join.
@@ -69,14 +70,18 @@ impl<P: Copy> Wire<P> {
     }
 
     // Sends to every running card but the sender, destinations ascending.
+    #[tactic(auto, using(crate::proofs::Wires::all_sent, crate::proofs::Wires::length_sent, crate::proofs::Wires::length_sending))]
     pub fn send(&mut self, cards: &Cards, from: usize, load: P)
         ensures items { items_of self.new ≡ sending (room_of self.old) (cards_of cards.now) from load (cards_of cards.now).count (items_of self.old) }
         ensures tight { length (items_of self.old) + length (sent (cards_of cards.now) from load (cards_of cards.now).count) ≤ room_of self.old → items_of self.new ≡ items_of self.old ++ sent (cards_of cards.now) from load (cards_of cards.now).count }
         ensures fits { length (items_of self.old) + (cards_of cards.now).count ≤ room_of self.old → items_of self.new ≡ items_of self.old ++ sent (cards_of cards.now) from load (cards_of cards.now).count }
+        ensures most { length (items_of self.new) ≤ length (items_of self.old) + (cards_of cards.now).count }
         ensures room { room_of self.new ≡ room_of self.old }
     {
         for to in 0..cards.count() {
-            self.offer_next(cards, from, to, load);
+            if !cards.has_crashed(to) && to != from {
+                self.join(Item { from, to, load });
+            }
         }
     }
 
@@ -89,7 +94,7 @@ impl<P: Copy> Wire<P> {
         ensures fewer { length (items_of self.new) ≤ length (items_of self.old) }
         ensures room { room_of self.new ≡ room_of self.old }
     {
-        self.pull(item)
+        self.items.remove(item)
     }
 
     // Takes off an item whose sender has crashed; any other is refused.
@@ -99,9 +104,7 @@ impl<P: Copy> Wire<P> {
         ensures fewer { length (items_of self.new) ≤ length (items_of self.old) }
         ensures room { room_of self.new ≡ room_of self.old }
     {
-        let Some(sender) = self.sender_of(item) else {
-            return Err(Refusal::NoSuchItem);
-        };
+        let sender = self.sender_of(item).ok_or(Refusal::NoSuchItem)?;
         if !cards.has_crashed(sender) {
             return Err(Refusal::SenderNotCrashed);
         }
@@ -109,92 +112,12 @@ impl<P: Copy> Wire<P> {
         Ok(())
     }
 
-    // Lets go what is addressed to a card: each item goes once round the ring, so the rest keeps its order.
+    // Lets go what is addressed to a card; the rest keeps its order.
     pub fn let_go(&mut self, card: usize)
         ensures items { items_of self.new ≡ without_to card (items_of self.old) }
         ensures fewer { length (items_of self.new) ≤ length (items_of self.old) }
         ensures room { room_of self.new ≡ room_of self.old }
     {
-        let count = self.len();
-        self.turn(card, count);
-    }
-
-    // Sends to one card, if it runs and is not the sender.
-    fn offer(&mut self, cards: &Cards, from: usize, to: usize, load: P)
-        ensures items { items_of self.new ≡ (if goes_to (cards_of cards.now) from to then joined (room_of self.old) (items_of self.old) (item_of from to load) else items_of self.old) }
-        ensures room { room_of self.new ≡ room_of self.old }
-    {
-        if !cards.has_crashed(to) && to != from {
-            self.join(Item { from, to, load });
-        }
-    }
-
-    // What has been sent to the cards below `to` is then sent to one card more.
-    fn offer_next(&mut self, cards: &Cards, from: usize, to: usize, load: P)
-        ensures more { (room : ℕ) (xs : List (Item P)) → room ≡ room_of self.old → items_of self.old ≡ sending room (cards_of cards.now) from load to xs → items_of self.new ≡ sending room (cards_of cards.now) from load (to + 1) xs }
-        ensures room { room_of self.new ≡ room_of self.old }
-    {
-        self.offer(cards, from, to, load);
-    }
-
-    fn peek(&self, item: usize) -> Option<Item<P>>
-        ensures { result ≡ slice_get (items_of self.now) item }
-    {
-        match self.items.get(item) {
-            Some(found) => Some(*found),
-            None => None,
-        }
-    }
-
-    fn counted(&self) -> usize
-        ensures items { result ≡ length (items_of self.now) }
-        ensures senders { result ≡ length (senders (items_of self.now)) }
-    {
-        self.items.len()
-    }
-
-    fn look(&self, item: usize) -> Option<usize>
-        ensures value { result ≡ slice_get (senders (items_of self.now)) item }
-        ensures there { is_some result ≡ nat_lt item (length (senders (items_of self.now))) }
-        ensures sender { unwrap_or result 7 ≡ slice_index_or (senders (items_of self.now)) item 7 }
-    {
-        match self.items.get(item) {
-            Some(found) => Some(found.from),
-            None => None,
-        }
-    }
-
-    fn pull(&mut self, item: usize) -> Option<Item<P>>
-        ensures value { result ≡ slice_get (items_of self.old) item }
-        ensures there { is_some result ≡ nat_lt item (length (senders (items_of self.old))) }
-        ensures items { items_of self.new ≡ remove (items_of self.old) item }
-        ensures untouched { is_some result ≡ false → items_of self.new ≡ items_of self.old }
-        ensures fewer { length (items_of self.new) ≤ length (items_of self.old) }
-        ensures room { room_of self.new ≡ room_of self.old }
-    {
-        self.items.remove(item)
-    }
-
-    // The first item goes to the end, or off the wire if it is addressed to the card.
-    fn turn_once(&mut self, card: usize)
-        ensures items { items_of self.new ≡ turned card (items_of self.old) }
-        ensures room { room_of self.new ≡ room_of self.old }
-    {
-        if let Some(first) = self.items.remove(0) {
-            if first.to != card {
-                self.items.push_back_reserved(first);
-            }
-        }
-    }
-
-    fn turn(&mut self, card: usize, times: usize)
-        ensures items { items_of self.new ≡ turned_times card times (items_of self.old) }
-        ensures round { times ≡ length (items_of self.old) → items_of self.new ≡ without_to card (items_of self.old) }
-        ensures fewer { times ≡ length (items_of self.old) → length (items_of self.new) ≤ length (items_of self.old) }
-        ensures room { room_of self.new ≡ room_of self.old }
-    {
-        for _turn in 0..times {
-            self.turn_once(card);
-        }
+        self.items.retain(|item| item.to != card);
     }
 }

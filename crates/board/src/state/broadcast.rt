@@ -5,7 +5,6 @@ ghost use Rattle.board.specs.Keeps.{new_made, post_made, carry_made, none_lost, 
 ghost use Rattle.board.specs.Means.{new_means, post_means, carry_means, lose_means, crash_means, suspect_means, lawful};
 
 use super::Board;
-use super::steps::{announce, settled};
 use cards::Cards;
 use notes::set::NoteSet;
 use parts::broadcast::Broadcast;
@@ -83,17 +82,13 @@ impl Broadcast for Board {
     }
 
     fn post(&mut self, card: usize, note: usize) -> Result<(), Refusal> {
-        if let Err(refusal) = self.posters.post(&self.cards, card, note) {
-            return Err(refusal);
-        }
-        announce(&mut self.wire, &self.cards, note);
+        self.posters.post(&self.cards, card, note)?;
+        self.wire.send(&self.cards, 7, note);
         Ok(())
     }
 
     fn carry(&mut self, item: usize) -> Result<(), Refusal> {
-        let Some(taken) = self.wire.take(item) else {
-            return Err(Refusal::NoSuchItem);
-        };
+        let taken = self.wire.take(item).ok_or(Refusal::NoSuchItem)?;
         self.handed.add(taken.to, taken.load);
         Ok(())
     }
@@ -104,9 +99,7 @@ impl Broadcast for Board {
     }
 
     fn crash(&mut self, card: usize) -> Result<(), Refusal> {
-        if let Err(refusal) = self.cards.crash(card) {
-            return Err(refusal);
-        }
+        self.cards.crash(card)?;
         self.wire.let_go(card);
         Ok(())
     }
@@ -149,7 +142,8 @@ impl Broadcast for Board {
 }
 
 impl Uniform for Board {
+    #[tactic(auto, using(crate::specs::Means::quiet_board, crate::specs::Means::quiet_gives, crate::specs::Means::agreed))]
     fn is_quiet(&self) -> bool {
-        settled(self)
+        self.wire_len() == 0 && self.cards.all_suspected()
     }
 }

@@ -5,7 +5,6 @@ ghost use Rattle.register.specs.Keeps.{new_made, propose_made, carry_made, lose_
 ghost use Rattle.register.specs.Means.{new_means, propose_means, carry_means, lose_means, crash_means, suspect_means, lawful};
 
 use super::Register;
-use super::steps::{decide, submit};
 use crate::held::Held;
 use cards::Cards;
 use notes::set::NoteSet;
@@ -13,7 +12,7 @@ use parts::consensus::Consensus;
 use parts::refusal::Refusal;
 use std::alloc::{AllocError, Global};
 use tables::ballots::Ballots;
-use wire::Wire;
+use wire::{Item, Wire};
 
 // A proposal puts one item on the wire.
 const ITEMS_OF_A_PROPOSAL: u32 = 1;
@@ -83,27 +82,24 @@ impl Consensus for Register {
     }
 
     fn propose(&mut self, instance: usize, card: usize, notes: NoteSet) -> Result<(), Refusal> {
-        if let Err(refusal) = self.proposals.propose(&self.cards, instance, card, notes) {
-            return Err(refusal);
-        }
-        submit(&mut self.wire, card, instance);
+        self.proposals
+            .propose(&self.cards, instance, card, notes)?;
+        self.wire.join(Item {
+            from: card,
+            to: 7,
+            load: instance,
+        });
         Ok(())
     }
 
     fn carry(&mut self, item: usize) -> Result<(), Refusal> {
-        let Some(taken) = self.wire.take(item) else {
-            return Err(Refusal::NoSuchItem);
-        };
+        let taken = self.wire.take(item).ok_or(Refusal::NoSuchItem)?;
         let proposal = self.proposals.of(taken.load, taken.from);
         self.held.fill(taken.load, proposal);
         let held = self.held.of(taken.load);
-        decide(
-            &mut self.decisions,
-            &self.cards,
-            taken.load,
-            taken.from,
-            held,
-        );
+        if !self.cards.has_crashed(taken.from) {
+            self.decisions.put(taken.load, taken.from, held);
+        }
         Ok(())
     }
 

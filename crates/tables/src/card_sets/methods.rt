@@ -18,11 +18,7 @@ impl CardSets {
     pub fn of(&self, card: usize) -> NoteSet
         ensures { bits result ≡ set_in (card_sets_of self.now) card }
     {
-        if card < 6 {
-            self.held(card)
-        } else {
-            NoteSet::empty()
-        }
+        self.sets.get(card).copied().unwrap_or(NoteSet::empty())
     }
 
     // Puts the note into the card's set.
@@ -41,13 +37,7 @@ impl CardSets {
         self.put(card, held.union(notes));
     }
 
-    fn held(&self, card: usize) -> NoteSet
-        requires { card < 6 }
-        ensures { bits result ≡ set_in (card_sets_of self.now) card }
-    {
-        self.sets[card]
-    }
-
+    #[tactic(auto, using(crate::proofs::Written::set_written))]
     fn put(&mut self, card: usize, notes: NoteSet)
         ensures { card_sets_of self.new ≡ slice_set (card_sets_of self.old) card (bits notes) }
     {

@@ -1,7 +1,7 @@
-ghost use Rattle.std.specs.Prelude.{◌≡◌, replicate, is_ok, if◌then◌else◌, Some, None, slice_set};
+ghost use Rattle.std.specs.Prelude.{◌≡◌, ◌+◌, replicate, is_ok, if◌then◌else◌, Some, None, slice_set};
 ghost use Rattle.parts.specs.Refusals.{post_answer};
 ghost use Rattle.cards.specs.Cards.{cards_of};
-ghost use Rattle.tables.specs.Tables.{posters_of, poster_in, posts_view};
+ghost use Rattle.tables.specs.Tables.{posters_of, poster_in, posts_view, free_notes};
 
 use super::Posters;
 use cards::Cards;
@@ -18,24 +18,18 @@ impl Posters {
     pub fn of(&self, m: usize) -> Option<usize>
         ensures { result ≡ poster_in (posters_of self.now) m }
     {
-        if m < 32 { self.by[m] } else { None }
+        self.by.get(m).copied().flatten()
     }
 
     // Writes down that the card has posted the note, unless the post is refused.
+    #[tactic(auto, using(crate::proofs::Free::one_less_free))]
     pub fn post(&mut self, cards: &Cards, card: usize, note: usize) -> Result<(), Refusal>
         ensures answer { result ≡ post_answer (posts_view (cards_of cards.now) (posters_of self.old)) card note }
         ensures after { posters_of self.new ≡ (if is_ok result then slice_set (posters_of self.old) note (Some card) else posters_of self.old) }
+        ensures free { free_notes (posters_of self.new) + (if is_ok result then 1 else 0) ≡ free_notes (posters_of self.old) }
     {
-        if card >= cards.count() {
-            return Err(Refusal::NoSuchCard);
-        }
-        if cards.has_crashed(card) {
-            return Err(Refusal::CardCrashed);
-        }
-        if note >= 32 {
-            return Err(Refusal::NoSuchNote);
-        }
-        let poster = self.by[note];
+        cards.acting(card)?;
+        let poster = self.by.get(note).ok_or(Refusal::NoSuchNote)?;
         if poster.is_some() {
             return Err(Refusal::AlreadyPosted);
         }
