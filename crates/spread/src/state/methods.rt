@@ -34,9 +34,7 @@ impl Spread {
         ensures answer { result ≡ post_answer (posts_view (spread_of self.old).cards (spread_of self.old).posters) card note }
         ensures after { spread_of self.new ≡ (if is_ok result then post_on (spread_of self.old) card note else spread_of self.old) }
     {
-        if let Err(refusal) = self.posters.post(&self.cards, card, note) {
-            return Err(refusal);
-        }
+        self.posters.post(&self.cards, card, note)?;
         self.meet(card, note);
         Ok(())
     }
@@ -48,11 +46,9 @@ impl Spread {
         ensures after { spread_of self.new ≡ carry_on (spread_of self.old) item }
         ensures untouched { is_some result ≡ false → spread_of self.new ≡ spread_of self.old }
     {
-        let taken = self.wire.take(item);
-        if let Some(found) = taken {
-            self.meet(found.to, found.load);
-        }
-        taken
+        let taken = self.wire.take(item)?;
+        self.meet(taken.to, taken.load);
+        Some(taken)
     }
 
     pub fn lose(&mut self, item: usize) -> Result<(), Refusal>
@@ -66,9 +62,7 @@ impl Spread {
         ensures answer { result ≡ crash_answer (net_of (spread_of self.old).cards (senders (spread_of self.old).wire) 0) card }
         ensures after { spread_of self.new ≡ (if is_ok result then crash_on (spread_of self.old) card else spread_of self.old) }
     {
-        if let Err(refusal) = self.cards.crash(card) {
-            return Err(refusal);
-        }
+        self.cards.crash(card)?;
         self.wire.let_go(card);
         Ok(())
     }
@@ -84,7 +78,7 @@ impl Spread {
     pub fn is_quiet(&self) -> bool
         ensures { Decides result (Quiet (net_of (spread_of self.now).cards (senders (spread_of self.now).wire) (spread_work (spread_of self.now)))) }
     {
-        self.settled()
+        self.wire_len() == 0 && self.cards.all_suspected()
     }
 
     pub fn card_count(&self) -> usize
@@ -135,12 +129,6 @@ impl Spread {
         ensures { IfOk result (λ w. (items_of w ≡ []) × (960 ≤ room_of w)) }
     {
         Wire::new(heap, 960)
-    }
-
-    fn settled(&self) -> bool
-        ensures { Decides result (Quiet (net_of (spread_of self.now).cards (senders (spread_of self.now).wire) (spread_work (spread_of self.now)))) }
-    {
-        self.wire_len() == 0 && self.cards.all_suspected()
     }
 
     // A card that has not relayed the note relays it.
