@@ -8,6 +8,4 @@ pub mod methods;
 #[derive(Drop)]
 pub struct Counts {
     sets: [[NoteSet; 6]; 6],
-    ghost cards: { length sets ≡ 6 },
-    ghost row: { (p : ℕ) → p < 6 → length (slice_index_or sets p []) ≡ 6 },
 }

@@ -18,7 +18,10 @@ impl Counts {
     pub fn of(&self, card: usize, relayer: usize) -> NoteSet
         ensures { bits result ≡ counted_in (counts_of self.now) card relayer }
     {
-        self.read(card, relayer)
+        match self.sets.get(card).and_then(|row| row.get(relayer)) {
+            Some(notes) => *notes,
+            None => NoteSet::empty(),
+        }
     }
 
     // The card counts the relayer of the note.
@@ -26,24 +29,8 @@ impl Counts {
         ensures { counts_of self.new ≡ with_count (counts_of self.old) card relayer note }
     {
         let counted = self.of(card, relayer);
-        self.write(card, relayer, counted.with(note));
-    }
-
-    fn read(&self, card: usize, relayer: usize) -> NoteSet
-        ensures { bits result ≡ counted_in (counts_of self.now) card relayer }
-    {
         if card < 6 && relayer < 6 {
-            self.sets[card][relayer]
-        } else {
-            NoteSet::empty()
-        }
-    }
-
-    fn write(&mut self, card: usize, relayer: usize, notes: NoteSet)
-        ensures { counts_of self.new ≡ with_counted (counts_of self.old) card relayer (bits notes) }
-    {
-        if card < 6 && relayer < 6 {
-            self.sets[card][relayer] = notes;
+            self.sets[card][relayer] = counted.with(note);
         }
     }
 }

@@ -45,11 +45,4 @@ impl AllAck {
             notes.without(notes.without(self.counted.of(card, other)))
         }
     }
-
-    pub(super) fn settled(&self) -> bool
-        ensures answer { Decides result (Quiet (seen (all_ack_of self.now)).net) }
-        ensures agreed { result ≡ true → MadeAllAck (all_ack_of self.now) → UniformAgreement (seen (all_ack_of self.now)) }
-    {
-        self.spread.is_quiet()
-    }
 }

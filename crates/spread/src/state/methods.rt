@@ -18,10 +18,12 @@ use tables::posters::Posters;
 use wire::{Item, Wire};
 
 impl Spread {
+    #[tactic(auto, using(crate::proofs::Pairs::unrelayed_new))]
     pub fn new(heap: Global, count: usize) -> Result<Spread, AllocError>
         ensures { IfOk result (λ x. spread_of x ≡ new_spread count) }
     {
-        let wire = Spread::wire_for_all(heap)?;
+        // Each of 32 notes is relayed by at most 6 cards, each time to at most 5 others.
+        let wire = Wire::new(heap, 960)?;
         Ok(Spread {
             cards: Cards::new(count),
             posters: Posters::new(),
@@ -124,13 +126,6 @@ impl Spread {
         self.relayed.of(card)
     }
 
-    // Each of 32 notes is relayed by at most 6 cards, each time to at most 5 others.
-    fn wire_for_all(heap: Global) -> Result<Wire<usize>, AllocError>
-        ensures { IfOk result (λ w. (items_of w ≡ []) × (960 ≤ room_of w)) }
-    {
-        Wire::new(heap, 960)
-    }
-
     // A card that has not relayed the note relays it.
     fn meet(&mut self, card: usize, note: usize)
         ensures { spread_of self.new ≡ meet_on (spread_of self.old) card note }
@@ -146,6 +141,7 @@ impl Spread {
         card < self.cards.count() && note < 32 && !self.relayed.of(card).contains(note)
     }
 
+    #[tactic(auto, using(crate::proofs::Rooms::relay_room))]
     fn relay(&mut self, card: usize, note: usize)
         requires { lacks (spread_of self.old) card note ≡ true }
         ensures { spread_of self.new ≡ relay_on (spread_of self.old) card note }
