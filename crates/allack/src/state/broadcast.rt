@@ -138,7 +138,6 @@ impl Broadcast for AllAck {
 }
 
 impl Uniform for AllAck {
-    #[tactic(auto, using(crate::specs::Means::quiet_agrees))]
     fn is_quiet(&self) -> bool {
         self.spread.is_quiet()
     }
