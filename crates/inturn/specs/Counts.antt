@@ -1,42 +1,46 @@
 -- Which notes count.
-use Rattle.std.proofs.Common.{◌≡◌, ℕ, zero, suc, ◌+◌, ◌^◌, ◌<◌, ◌≤◌, Bool, true, false, cond, not, ◌&&◌, ltb, List, length, sym, refl, ap, ◌∙◌, ⊎_elim, add-one, arith, pow_pos}
+use Rattle.std.proofs.Common.{◌≡◌, ℕ, zero, suc, ◌+◌, ◌^◌, ◌<◌, ◌≤◌, Bool, true, cond, not, ◌||◌, ltb, List, [], ◌∷◌, take, length, sym, refl, ap, ◌∙◌, ⊎_elim, arith, pow_pos}
+use Rattle.std.specs.Prelude.{◌==◌, slice_index_or}
+use Rattle.std.specs.List.{list_all}
 use lib.Bits.{or_lt}
 use lib.Pow.{pow-lt}
-use Rattle.std.proofs.lemmas.Bool.{cases_Bool, cases_eq, or_cases, or_left, or_right, and_parts, and_from, eqb-true, eq-eqb, leb-true, le-leb, cond-true, cond-false, cond_both, both_ways, not-true, not_from_false, lt-ltb, ltb-true}
+use Rattle.std.proofs.lemmas.Bool.{cases_Bool, cases_eq, or_cases, or_left, or_right, and_parts, and_from, eqb-true, eq-eqb, cond-true, cond-false, cond_both, both_ways, not-true, not_from_false, lt-ltb, ltb-true}
 use Rattle.std.proofs.lemmas.Bool.Decides.{nat_tests}
 use Rattle.notes.specs.Sets.{has, added}
 use Rattle.notes.proofs.Bits.{has_none, has_added, same_sets}
 use Rattle.inturn.specs.declared.post.Post.{Post}
-use Rattle.inturn.specs.Turns.{post_at, keeps_back, clear_of, counts, counted_of, in_turn}
+use Rattle.inturn.specs.Turns.{post_of, post_at, counts, counted_of, in_turn}
 
--- One post more, as the loops go.
-pub clear_more : (posts : List Post) (s i k : ℕ) (b : Bool) → b ≡ clear_of posts s i k → (b && not (keeps_back posts s i k)) ≡ clear_of posts s i (k + 1)
-clear_more posts s i k b e = rw (add-one, e) refl
+-- One post more, as the loop goes.
+pub counted_more : (posts : List Post) (s k n r : ℕ) → n ≡ counted_of posts s k → r ≡ cond (counts posts s k) (added n (post_at posts k).note) n → r ≡ counted_of posts s (k + 1)
+counted_more posts s k n r e f = let q : suc k ≡ k + 1 = omega arith in f ∙ ap (λ z. cond (counts posts s k) (added z (post_at posts k).note) z) e ∙ ap (counted_of posts s) q
 
-pub counted_more : (posts : List Post) (s k n r m : ℕ) (b : Bool) → b ≡ counts posts s k → m ≡ (post_at posts k).note → n ≡ counted_of posts s k → r ≡ cond b (added n m) n → r ≡ counted_of posts s (k + 1)
-counted_more posts s k n r m b t x e f = f ∙ rw (add-one, t, x, e) refl
+-- What the first posts of a table pass, by their places.
+passes_below : {X : Type 0} (test : X → Bool) (xs : List X) (d : X) (n : ℕ) → list_all test (take n xs) ≡ true → (j : ℕ) → j < length xs → j < n → test (slice_index_or xs j d) ≡ true
+passes_below test [] d n h j l o = absurd (omega arith)
+passes_below test (x ∷ xs) d zero h j l o = absurd (omega arith)
+passes_below test (x ∷ xs) d (suc n) h zero l o = (and_parts _ _ h).0
+passes_below test (x ∷ xs) d (suc n) h (suc j) l o = passes_below test xs d n (and_parts _ _ h).1 j (omega arith) (omega arith)
 
--- A post that is clear of others has them in the set, if they are earlier posts of its card.
-pub clear_each : (posts : List Post) (s i k : ℕ) → clear_of posts s i k ≡ true → (j : ℕ) → j < k → j ≤ i → (post_at posts j).card ≡ (post_at posts i).card → has s (post_at posts j).note ≡ true
-clear_each posts s i zero h j l o e = absurd (omega arith)
-clear_each posts s i (suc k) h j l o e =
-    let t = and_parts _ _ h in
-    ⊎_elim
-    (λ q.
-    let n : keeps_back posts s i j ≡ false = ap (keeps_back posts s i) q ∙ not-true _ t.1 in
-    ⊎_elim (λ y. y) (λ y. absurd (both_ways _ n (and_from _ _ (le-leb j i o) (and_from _ _ (eq-eqb _ _ e) (not_from_false _ y))))) (cases_Bool (has s (post_at posts j).note)))
-    (λ q. clear_each posts s i k t.0 j (omega arith) o e)
-    (cases_eq j k)
+below_passes : {X : Type 0} (test : X → Bool) (xs : List X) (d : X) (n : ℕ) → ((j : ℕ) → j < length xs → j < n → test (slice_index_or xs j d) ≡ true) → list_all test (take n xs) ≡ true
+below_passes test xs d zero h = refl
+below_passes test [] d (suc n) h = refl
+below_passes test (x ∷ xs) d (suc n) h = and_from _ _ (h 0 (omega arith) (omega arith)) (below_passes test xs d n (λ j l o. h (suc j) (omega arith) (omega arith)))
 
-pub clear_all : (posts : List Post) (s i k : ℕ) → ((j : ℕ) → j < k → j ≤ i → (post_at posts j).card ≡ (post_at posts i).card → has s (post_at posts j).note ≡ true) → clear_of posts s i k ≡ true
-clear_all posts s i zero h = refl
-clear_all posts s i (suc k) h =
-    and_from _ _ (clear_all posts s i k (λ j l. h j (omega arith)))
-    (not_from_false _
-    (⊎_elim
-    (λ y. let t = and_parts _ _ y in let u = and_parts _ _ t.1 in absurd (both_ways _ (not-true _ u.1) (h k (omega arith) (leb-true k i t.0) (eqb-true _ _ u.0))))
-    (λ y. y)
-    (cases_Bool (keeps_back posts s i k))))
+-- A post counts where it and the earlier posts of its card are in the set.
+pub clear_each : (posts : List Post) (s i : ℕ) → counts posts s i ≡ true → (j : ℕ) → j < length posts → j ≤ i → (post_at posts j).card ≡ (post_at posts i).card → has s (post_at posts j).note ≡ true
+clear_each posts s i h j l o e =
+    let p = (post_at posts i).card in
+    let t = passes_below (λ x. not (x.card == p) || has s x.note) posts (post_of 0 0) (i + 1) h j l (omega arith) in
+    let q = eq-eqb _ _ e in
+    ⊎_elim (λ y. absurd (both_ways _ (not-true _ y) q)) (λ y. y) (or_cases _ _ t)
+
+pub clear_all : (posts : List Post) (s i : ℕ) → ((j : ℕ) → j < length posts → j ≤ i → (post_at posts j).card ≡ (post_at posts i).card → has s (post_at posts j).note ≡ true) → counts posts s i ≡ true
+clear_all posts s i h =
+    let p = (post_at posts i).card in
+    below_passes (λ x. not (x.card == p) || has s x.note) posts (post_of 0 0) (i + 1)
+    (λ j l o.
+    ⊎_elim (λ t. or_right _ _ (h j l (omega arith) (eqb-true _ _ t))) (λ f. or_left _ _ (not_from_false _ f)) (cases_Bool ((post_at posts j).card == p)))
 
 -- Where a note that counts stands in the table.
 pub record Counted (posts : List Post) (s k m : ℕ) : Type 0 where
@@ -81,7 +85,7 @@ same_notes s t f g = same_sets s t (λ m. let a = f m in let b = g m in grind (a
 
 -- Note m and all earlier posts of its poster are in s, by the place where m counts.
 each_held : (posts : List Post) (s m : ℕ) (c : Counted posts s (length posts) m) (j : ℕ) → j ≤ c.place → (post_at posts j).card ≡ (post_at posts c.place).card → has s (post_at posts j).note ≡ true
-each_held posts s m c j = let l = c.below in λ o e. clear_each posts s c.place (length posts) c.counts j (omega arith) o e
+each_held posts s m c j = let l = c.below in λ o e. clear_each posts s c.place c.counts j (omega arith) o e
 
 -- What counts is in the set.
 pub counted_held : (posts : List Post) (s m : ℕ) → has (in_turn posts s) m ≡ true → has s m ≡ true
@@ -92,7 +96,7 @@ pub counts_in : (posts : List Post) (s t m : ℕ) (c : Counted posts s (length p
     → ((j : ℕ) → j ≤ c.place → (post_at posts j).card ≡ (post_at posts c.place).card → has t (post_at posts j).note ≡ true) → has (in_turn posts t) m ≡ true
 counts_in posts s t m c f =
     place_counted posts t (length posts) m
-    (record { place = c.place; below = c.below; note = c.note; small = c.small; counts = clear_all posts t c.place (length posts) (λ j _. f j) })
+    (record { place = c.place; below = c.below; note = c.note; small = c.small; counts = clear_all posts t c.place (λ j _. f j) })
 
 -- In a greater set no less counts.
 pub in_turn_more : (posts : List Post) (s t : ℕ) → ((m : ℕ) → has s m ≡ true → has t m ≡ true) → (m : ℕ) → has (in_turn posts s) m ≡ true → has (in_turn posts t) m ≡ true
@@ -104,7 +108,7 @@ pub earlier_counts : (posts : List Post) (s m : ℕ) → ((i : ℕ) → i < leng
 earlier_counts posts s m small c j o e =
     let b = c.below in
     place_counted posts s (length posts) (post_at posts j).note
-    (record { place = j; below = omega arith; note = refl; small = small j (omega arith); counts = clear_all posts s j (length posts) (λ i _ l f. each_held posts s m c i (omega arith) (f ∙ e)) })
+    (record { place = j; below = omega arith; note = refl; small = small j (omega arith); counts = clear_all posts s j (λ i _ l f. each_held posts s m c i (omega arith) (f ∙ e)) })
 
 -- What counts among the notes that count: all of them.
 pub in_turn_again : (posts : List Post) (s : ℕ) → ((i : ℕ) → i < length posts → (post_at posts i).note < 32) → in_turn posts (in_turn posts s) ≡ in_turn posts s

@@ -42,7 +42,7 @@ lawful_over posts v law a =
             below = o.1;
             note = ap (λ z. z.note) o.2;
             small = law.posted_notes_below_32 m (ap is_some e);
-            counts = clear_all posts (v.handed c) o.0 (length posts) (λ j l _ f. same j l f);
+            counts = clear_all posts (v.handed c) o.0 (λ j l _ f. same j l f);
           });
     }
 
@@ -90,7 +90,7 @@ module _ (posts : List Post) (v : BroadcastView) (law : Lawful v) (a : Agrees v.
         below = o.1;
         note = note;
         small = law.posted_notes_below_32 m some;
-        counts = clear_all posts (v.handed c) o.0 (length posts) (λ j _ k e.
+        counts = clear_all posts (v.handed c) o.0 (λ j _ k e.
             ⊎_elim (λ q. ap (λ i. has (v.handed c) (post_at posts i).note) q ∙ ap (has (v.handed c)) note ∙ h.note)
             (λ q. h.earlier_notes _ (record { earlier = j; later = o.0; order = omega (arith, q); in_table = o.1; earlier_note = refl; later_note = note; same_card = e }))
             (cases_eq j o.0));

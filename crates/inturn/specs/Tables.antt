@@ -90,9 +90,9 @@ module _ (posts : List Post) (p m : ℕ) where
         below = omega arith;
         note = ap (λ z. z.note) (old_place i x) ∙ c.note;
         small = c.small;
-        counts = clear_all more t i (length more) (λ j l o e.
+        counts = clear_all more t i (λ j l o e.
             let y : j < length posts = omega arith in
-            ap (λ z. has t z.note) (old_place j y) ∙ f _ (clear_each posts s i (length posts) c.counts j y o (sym (ap (λ z. z.card) (old_place j y)) ∙ e ∙ ap (λ z. z.card) (old_place i x))));
+            ap (λ z. has t z.note) (old_place j y) ∙ f _ (clear_each posts s i c.counts j y o (sym (ap (λ z. z.card) (old_place j y)) ∙ e ∙ ap (λ z. z.card) (old_place i x))));
       })
 
   -- A note that is not handed counts for nothing, and keeps back nothing.
@@ -103,7 +103,7 @@ module _ (posts : List Post) (p m : ℕ) where
       (λ k h.
       let c = counted_place more s (length more) k h in
       let i = c.place in
-      let each = clear_each more s i (length more) c.counts in
+      let each = clear_each more s i c.counts in
       ⊎_elim
       (λ x.
       place_counted posts s (length posts) k
@@ -112,7 +112,7 @@ module _ (posts : List Post) (p m : ℕ) where
         below = x;
         note = sym (ap (λ z. z.note) (old_place i x)) ∙ c.note;
         small = c.small;
-        counts = clear_all posts s i (length posts) (λ j l o e.
+        counts = clear_all posts s i (λ j l o e.
             ap (λ z. has s z.note) (sym (old_place j l)) ∙ each j (omega arith) o (ap (λ z. z.card) (old_place j l) ∙ e ∙ sym (ap (λ z. z.card) (old_place i x))));
       }))
       (λ x. absurd (both_ways (has s m) lacks (ap (λ z. has s z.note) (sym (ap (post_at more) x ∙ new_place)) ∙ each i c.below (omega arith) refl)))

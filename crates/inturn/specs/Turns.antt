@@ -1,5 +1,6 @@
 -- Which notes of a set count where each card's posts are taken in the order of posting.
-use Rattle.std.specs.Prelude.{ℕ, zero, suc, Bool, true, cond, not, ◌&&◌, List, [], ◌∷◌, ◌++◌, length, ◌==◌, nat_le, nat_lt, slice_index_or}
+use Rattle.std.specs.Prelude.{ℕ, zero, suc, ◌+◌, Bool, cond, not, ◌||◌, List, [], ◌∷◌, ◌++◌, take, length, ◌==◌, nat_lt, slice_index_or}
+use Rattle.std.specs.List.{list_all}
 use Rattle.notes.specs.Sets.{has, added}
 use Rattle.inturn.specs.declared.post.Post.{Post}
 
@@ -15,19 +16,13 @@ post_at posts i = slice_index_or posts i (post_of 0 0)
 abbrev pub written : List Post → ℕ → ℕ → List Post
 written posts p m = cond (nat_lt (length posts) 32) (posts ++ (post_of p m ∷ [])) posts
 
--- Whether the post at place j keeps the one at place i from counting where the notes of s are handed:
--- it is that post or an earlier one of the same card, and its note is not in s.
-abbrev pub keeps_back : List Post → ℕ → ℕ → ℕ → Bool
-keeps_back posts s i j = nat_le j i && ((post_at posts j).card == (post_at posts i).card && not (has s (post_at posts j).note))
-
--- Whether none of the first k posts keeps it back.
-abbrev pub clear_of : List Post → ℕ → ℕ → ℕ → Bool
-clear_of posts s i zero = true
-clear_of posts s i (suc k) = clear_of posts s i k && not (keeps_back posts s i k)
+-- Whether s holds the notes of all posts that card p made among these.
+abbrev pub all_held : List Post → ℕ → ℕ → Bool
+all_held posts s p = list_all (λ x. not (x.card == p) || has s x.note) posts
 
 -- Whether the post at place i counts: it and all earlier posts of its card are in s.
 abbrev pub counts : List Post → ℕ → ℕ → Bool
-counts posts s i = clear_of posts s i (length posts)
+counts posts s i = all_held (take (i + 1) posts) s (post_at posts i).card
 
 -- The notes of the first k posts that count.
 abbrev pub counted_of : List Post → ℕ → ℕ → ℕ

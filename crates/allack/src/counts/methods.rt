@@ -4,13 +4,15 @@ ghost use Rattle.allack.specs.Counts.{counts_of, new_counts, counted_in, with_co
 
 use super::Counts;
 use notes::set::NoteSet;
+use std::array;
+use tables::card_sets::CardSets;
 
 impl Counts {
     pub fn new() -> Counts
         ensures { counts_of result ≡ new_counts }
     {
         Counts {
-            sets: [[NoteSet::empty(); 6]; 6],
+            rows: array::from_fn(|_card| CardSets::new()),
         }
     }
 
@@ -18,32 +20,17 @@ impl Counts {
     pub fn of(&self, card: usize, relayer: usize) -> NoteSet
         ensures { bits result ≡ counted_in (counts_of self.now) card relayer }
     {
-        self.read(card, relayer)
+        self.rows
+            .get(card)
+            .map_or(NoteSet::empty(), |row| row.of(relayer))
     }
 
     // The card counts the relayer of the note.
     pub fn count(&mut self, card: usize, relayer: usize, note: usize)
         ensures { counts_of self.new ≡ with_count (counts_of self.old) card relayer note }
     {
-        let counted = self.of(card, relayer);
-        self.write(card, relayer, counted.with(note));
-    }
-
-    fn read(&self, card: usize, relayer: usize) -> NoteSet
-        ensures { bits result ≡ counted_in (counts_of self.now) card relayer }
-    {
-        if card < 6 && relayer < 6 {
-            self.sets[card][relayer]
-        } else {
-            NoteSet::empty()
-        }
-    }
-
-    fn write(&mut self, card: usize, relayer: usize, notes: NoteSet)
-        ensures { counts_of self.new ≡ with_counted (counts_of self.old) card relayer (bits notes) }
-    {
-        if card < 6 && relayer < 6 {
-            self.sets[card][relayer] = notes;
+        if card < 6 {
+            self.rows[card].add(relayer, note);
         }
     }
 }

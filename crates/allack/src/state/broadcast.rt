@@ -76,18 +76,14 @@ impl Broadcast for AllAck {
     }
 
     fn post(&mut self, card: usize, note: usize) -> Result<(), Refusal> {
-        if let Err(refusal) = self.spread.post(card, note) {
-            return Err(refusal);
-        }
+        self.spread.post(card, note)?;
         self.counted.count(card, card, note);
         self.hand_over(card);
         Ok(())
     }
 
     fn carry(&mut self, item: usize) -> Result<(), Refusal> {
-        let Some(taken) = self.spread.carry(item) else {
-            return Err(Refusal::NoSuchItem);
-        };
+        let taken = self.spread.carry(item).ok_or(Refusal::NoSuchItem)?;
         self.counted.count(taken.to, taken.to, taken.load);
         self.counted.count(taken.to, taken.from, taken.load);
         self.hand_over(taken.to);
@@ -103,9 +99,7 @@ impl Broadcast for AllAck {
     }
 
     fn suspect(&mut self, by: usize, card: usize) -> Result<(), Refusal> {
-        if let Err(refusal) = self.spread.suspect(by, card) {
-            return Err(refusal);
-        }
+        self.spread.suspect(by, card)?;
         self.hand_over(by);
         Ok(())
     }
@@ -145,6 +139,6 @@ impl Broadcast for AllAck {
 
 impl Uniform for AllAck {
     fn is_quiet(&self) -> bool {
-        self.settled()
+        self.spread.is_quiet()
     }
 }

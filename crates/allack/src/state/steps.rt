@@ -19,37 +19,16 @@ impl AllAck {
         self.handed.add_all(card, notes);
     }
 
+    #[tactic(auto, using(crate::specs::Completes::complete_next))]
     fn complete(&self, card: usize) -> NoteSet
         ensures { bits result ≡ complete (all_ack_of self.now) card (all_ack_of self.now).spread.cards.count }
     {
         let mut notes = self.spread.relayed_by(card);
         for other in 0..self.spread.card_count() {
-            notes = self.still_complete(card, other, notes);
+            if !self.spread.suspects(card, other) {
+                notes = notes.without(notes.without(self.counted.of(card, other)));
+            }
         }
         notes
-    }
-
-    // Of the notes that are complete but for the cards from `other` on, those that are complete with it.
-    fn still_complete(&self, card: usize, other: usize, notes: NoteSet) -> NoteSet
-        ensures { bits notes ≡ complete (all_ack_of self.now) card other → bits result ≡ complete (all_ack_of self.now) card (other + 1) }
-    {
-        self.counted_too(card, other, notes)
-    }
-
-    fn counted_too(&self, card: usize, other: usize, notes: NoteSet) -> NoteSet
-        ensures { bits result ≡ (if suspects_in (all_ack_of self.now).spread.cards card other then bits notes else common (bits notes) (counted_in (all_ack_of self.now).counted card other)) }
-    {
-        if self.spread.suspects(card, other) {
-            notes
-        } else {
-            notes.without(notes.without(self.counted.of(card, other)))
-        }
-    }
-
-    pub(super) fn settled(&self) -> bool
-        ensures answer { Decides result (Quiet (seen (all_ack_of self.now)).net) }
-        ensures agreed { result ≡ true → MadeAllAck (all_ack_of self.now) → UniformAgreement (seen (all_ack_of self.now)) }
-    {
-        self.spread.is_quiet()
     }
 }

@@ -75,10 +75,8 @@ impl Broadcast for Relay {
     }
 
     fn carry(&mut self, item: usize) -> Result<(), Refusal> {
-        match self.spread.carry(item) {
-            Some(_) => Ok(()),
-            None => Err(Refusal::NoSuchItem),
-        }
+        self.spread.carry(item).ok_or(Refusal::NoSuchItem)?;
+        Ok(())
     }
 
     fn lose(&mut self, item: usize) -> Result<(), Refusal> {

@@ -18,10 +18,12 @@ use tables::posters::Posters;
 use wire::{Item, Wire};
 
 impl Spread {
+    #[tactic(auto, using(crate::proofs::Pairs::unrelayed_new))]
     pub fn new(heap: Global, count: usize) -> Result<Spread, AllocError>
         ensures { IfOk result (λ x. spread_of x ≡ new_spread count) }
     {
-        let wire = Spread::wire_for_all(heap)?;
+        // Each of 32 notes is relayed by at most 6 cards, each time to at most 5 others.
+        let wire = Wire::new(heap, 960)?;
         Ok(Spread {
             cards: Cards::new(count),
             posters: Posters::new(),
@@ -34,9 +36,7 @@ impl Spread {
         ensures answer { result ≡ post_answer (posts_view (spread_of self.old).cards (spread_of self.old).posters) card note }
         ensures after { spread_of self.new ≡ (if is_ok result then post_on (spread_of self.old) card note else spread_of self.old) }
     {
-        if let Err(refusal) = self.posters.post(&self.cards, card, note) {
-            return Err(refusal);
-        }
+        self.posters.post(&self.cards, card, note)?;
         self.meet(card, note);
         Ok(())
     }
@@ -48,11 +48,9 @@ impl Spread {
         ensures after { spread_of self.new ≡ carry_on (spread_of self.old) item }
         ensures untouched { is_some result ≡ false → spread_of self.new ≡ spread_of self.old }
     {
-        let taken = self.wire.take(item);
-        if let Some(found) = taken {
-            self.meet(found.to, found.load);
-        }
-        taken
+        let taken = self.wire.take(item)?;
+        self.meet(taken.to, taken.load);
+        Some(taken)
     }
 
     pub fn lose(&mut self, item: usize) -> Result<(), Refusal>
@@ -66,9 +64,7 @@ impl Spread {
         ensures answer { result ≡ crash_answer (net_of (spread_of self.old).cards (senders (spread_of self.old).wire) 0) card }
         ensures after { spread_of self.new ≡ (if is_ok result then crash_on (spread_of self.old) card else spread_of self.old) }
     {
-        if let Err(refusal) = self.cards.crash(card) {
-            return Err(refusal);
-        }
+        self.cards.crash(card)?;
         self.wire.let_go(card);
         Ok(())
     }
@@ -84,7 +80,7 @@ impl Spread {
     pub fn is_quiet(&self) -> bool
         ensures { Decides result (Quiet (net_of (spread_of self.now).cards (senders (spread_of self.now).wire) (spread_work (spread_of self.now)))) }
     {
-        self.settled()
+        self.wire_len() == 0 && self.cards.all_suspected()
     }
 
     pub fn card_count(&self) -> usize
@@ -130,19 +126,6 @@ impl Spread {
         self.relayed.of(card)
     }
 
-    // Each of 32 notes is relayed by at most 6 cards, each time to at most 5 others.
-    fn wire_for_all(heap: Global) -> Result<Wire<usize>, AllocError>
-        ensures { IfOk result (λ w. (items_of w ≡ []) × (960 ≤ room_of w)) }
-    {
-        Wire::new(heap, 960)
-    }
-
-    fn settled(&self) -> bool
-        ensures { Decides result (Quiet (net_of (spread_of self.now).cards (senders (spread_of self.now).wire) (spread_work (spread_of self.now)))) }
-    {
-        self.wire_len() == 0 && self.cards.all_suspected()
-    }
-
     // A card that has not relayed the note relays it.
     fn meet(&mut self, card: usize, note: usize)
         ensures { spread_of self.new ≡ meet_on (spread_of self.old) card note }
@@ -158,6 +141,7 @@ impl Spread {
         card < self.cards.count() && note < 32 && !self.relayed.of(card).contains(note)
     }
 
+    #[tactic(auto, using(crate::proofs::Rooms::relay_room))]
     fn relay(&mut self, card: usize, note: usize)
         requires { lacks (spread_of self.old) card note ≡ true }
         ensures { spread_of self.new ≡ relay_on (spread_of self.old) card note }
