@@ -1,5 +1,3 @@
-ghost use Rattle.std.specs.Prelude.{◌≡◌, ℕ, ◌<◌, [], length, slice_index_or};
-
 use notes::set::NoteSet;
 
 pub mod methods;
@@ -17,6 +15,4 @@ pub struct Seat {
 #[derive(Drop)]
 pub struct Seats {
     rows: [[Seat; 6]; 32],
-    ghost instances: { length rows ≡ 32 },
-    ghost row: { (k : ℕ) → k < 32 → length (slice_index_or rows k []) ≡ 6 },
 }
