@@ -2,6 +2,13 @@ use notes::set::NoteSet;
 
 pub mod methods;
 
+// A card in an instance.
+#[derive(Clone, Copy, Drop)]
+pub struct Place {
+    pub instance: usize,
+    pub card: usize,
+}
+
 // Where a card stands in an instance: its round, 0 before it proposes; whom it has counted in that round; and whose proposals it knows.
 // A set of cards is held like a set of notes.
 #[derive(Clone, Copy, Drop)]

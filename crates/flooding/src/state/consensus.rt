@@ -7,7 +7,7 @@ ghost use Rattle.flooding.specs.Lawful.{lawful};
 
 use super::Flooding;
 use crate::mail::Mail;
-use crate::seats::Seats;
+use crate::seats::{Place, Seats};
 use cards::Cards;
 use notes::set::NoteSet;
 use parts::consensus::Consensus;
@@ -86,8 +86,9 @@ impl Consensus for Flooding {
     // A proposer knows itself and enters round 1.
     fn propose(&mut self, instance: usize, card: usize, notes: NoteSet) -> Result<(), Refusal> {
         self.proposals.propose(&self.cards, instance, card, notes)?;
-        self.enter(instance, card, 1, NoteSet::empty().with(card));
-        self.settle(instance, card);
+        let place = Place { instance, card };
+        self.enter(place, 1, NoteSet::empty().with(card));
+        self.settle(place);
         Ok(())
     }
 

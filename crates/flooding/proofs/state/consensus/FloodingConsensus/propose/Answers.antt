@@ -22,7 +22,8 @@ enter-requires c =
     let s = c.args.self.now in
     let cards = cards_of s.cards in
     let a = sym c.in_ok-propose.ensures.answer in
-    let f = propose_accepted (proposals_view cards (ballots_of s.proposals)) c.args.instance c.args.card (bits c.args.notes) a in (
-      f.0,
-      omega (arith, s.room, rounds_first, ap free_ballots c.in_ok-propose.ensures.after, free_less cards s.proposals c.args.instance c.args.card (bits c.args.notes) s.cards.few a),
-    )
+    let f = propose_accepted (proposals_view cards (ballots_of s.proposals)) c.args.instance c.args.card (bits c.args.notes) a in
+    record {
+      card = f.0;
+      room = omega (arith, s.room, rounds_first, ap free_ballots c.in_ok-propose.ensures.after, free_less cards s.proposals c.args.instance c.args.card (bits c.args.notes) s.cards.few a);
+    }
