@@ -1,3 +1,4 @@
 pub mod Rooms
+pub mod Turns
 mod Lawful
 pub mod Holds

@@ -1,11 +1,22 @@
 -- Whether every card is accounted for, card by card.
-use Rattle.std.specs.Prelude.{◌≡◌, ℕ, zero, suc, ◌+◌, ◌<◌, true, false, refl}
+use Rattle.std.specs.Prelude.{◌≡◌, ℕ, zero, suc, ◌+◌, ◌<◌, true, false, ◌&&◌, refl}
+use Rattle.std.specs.List.{list_all, range_with_len}
+use Rattle.std.proofs.lemmas.Grind.{common_steps}
 use Rattle.std.proofs.Common.{sym, ap, ◌∙◌, ⊎_elim, add-one, arith}
 use Rattle.std.proofs.lemmas.Bool.{cases_lt, and_parts, and_from, and_left, and_right}
 use Rattle.cards.specs.Cards.{CardState}
 use Rattle.flooding.specs.Seats.{SeatState, accounted_for, all_counted}
 
 module _ (c : CardState) (q : ℕ) (s : SeatState) where
+  all_from : (n a : ℕ) → (all_counted c q s a && list_all (accounted_for c q s) (range_with_len a n)) ≡ all_counted c q s (a + n)
+  all_from zero a = grind (arith, common_steps)
+  all_from (suc n) a =
+      let e = all_from n (suc a) in
+      grind (arith, common_steps)
+
+  pub all_in_range : (n : ℕ) → list_all (accounted_for c q s) (range_with_len 0 n) ≡ all_counted c q s n
+  all_in_range n = let e : 0 + n ≡ n = omega arith in all_from n 0 ∙ ap (all_counted c q s) e
+
   pub all_more : (m : ℕ) → all_counted c q s m ≡ true → accounted_for c q s m ≡ true → all_counted c q s (m + 1) ≡ true
   all_more m a b = rw add-one (and_from _ _ a b)
 

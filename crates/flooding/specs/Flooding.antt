@@ -9,7 +9,7 @@ use Rattle.tables.specs.Tables.{ballots_of, new_ballots, ballot_in, with_ballot}
 use Rattle.wire.specs.Wires.{senders, sent, without_to}
 use Rattle.wire.specs.declared.Item.{Item}
 use Rattle.flooding.specs.Seats.{SeatState, seats_of, new_seats, seat_in, with_seat, entering, hearing, ready}
-use Rattle.flooding.specs.Mail.{LoadState, mail_of, taking_in}
+use Rattle.flooding.specs.Mail.{LoadState, telling, mail_of, taking_in}
 use Rattle.flooding.specs.declared.state.Flooding.{Flooding}
 
 -- `kept` are the items that came before their round: they wait there until their receiver enters it.
@@ -81,7 +81,7 @@ tell_on x k q =
       proposals = x.proposals;
       decisions = x.decisions;
       seats = x.seats;
-      wire = x.wire ++ sent x.cards q (record { instance = k; round = (seat_in x.seats k q).round; known = (seat_in x.seats k q).known }) x.cards.count;
+      wire = x.wire ++ sent x.cards q (telling x.seats k q) x.cards.count;
       kept = x.kept;
     }
 

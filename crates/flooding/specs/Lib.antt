@@ -1,6 +1,7 @@
 pub mod Seats
 pub mod Mail
 pub mod Room
+pub mod Enough
 pub mod Flooding
 pub mod Made
 pub mod Sound

@@ -1,7 +1,7 @@
 -- Lists of items, seen through what each stands for.
-use Rattle.std.specs.Prelude.{◌≡◌, ℕ, zero, suc, ◌+◌, ◌<◌, Bool, true, false, cond, List, [], ◌∷◌, ◌++◌, map, length, take, drop, bit_or, nat_lt, refl}
-use Rattle.std.proofs.Common.{sym, ap, ◌∙◌, ⊎_elim, arith, add-one}
-use Rattle.std.specs.List.{slice_get, remove}
+use Rattle.std.specs.Prelude.{◌≡◌, ℕ, zero, suc, ◌+◌, Bool, true, false, cond, List, [], ◌∷◌, ◌++◌, map, length, take, drop, bit_or, nat_lt, refl}
+use Rattle.std.proofs.Common.{sym, ap, ◌∙◌, ⊎_elim, arith}
+use Rattle.std.specs.List.{remove}
 use Rattle.std.proofs.lemmas.List.{map-append, take-map, drop-map}
 use Rattle.std.proofs.lemmas.List.Edits.{length-remove}
 use Rattle.std.proofs.lemmas.Bool.{cases_Bool, cond-true, cond-false, ltb-true, ltb-false}
@@ -10,7 +10,7 @@ use Rattle.notes.specs.Sets.{added}
 use Rattle.cards.specs.Cards.{CardState, suspects_in}
 use Rattle.wire.specs.Wires.{item, senders, goes_to, sent, elsewhere, without_to}
 use Rattle.wire.specs.declared.Item.{Item}
-use Rattle.flooding.specs.Mail.{LoadState, load_of, item_state, is_for, taking_one, taking_at, taking_in}
+use Rattle.flooding.specs.Mail.{LoadState, load_of, item_state, is_for, taking_one, taking_in}
 use Rattle.flooding.specs.Seats.{SeatState, hearing}
 use Rattle.flooding.specs.declared.mail.Load.{Load}
 
@@ -50,14 +50,9 @@ removed_length xs i true e = length-remove xs i (ltb-true i (length xs) (sym e))
 removed_length xs i false e = let l = ap length (removed_past xs i (ltb-false i (length xs) (sym e))) in omega arith
 
 -- One item more is taken in.
-pub taking_next : (c : CardState) (k q : ℕ) (s t : SeatState) (xs : List (Item LoadState)) (i : ℕ) → i < length xs → t ≡ taking_at c k q s (slice_get xs i)
-    → taking_in c k q t (drop (i + 1) xs) ≡ taking_in c k q s (drop i xs)
-taking_next c k q s t xs i l e = ap (λ j. taking_in c k q t (drop j xs)) (add-one i) ∙ at xs i l e
-  where
-    at : (xs : List (Item LoadState)) (i : ℕ) → i < length xs → t ≡ taking_at c k q s (slice_get xs i) → taking_in c k q t (drop (suc i) xs) ≡ taking_in c k q s (drop i xs)
-    at [] i l e = absurd (omega arith)
-    at (x ∷ xs) zero l e = ap (λ u. taking_in c k q u xs) e
-    at (x ∷ xs) (suc i) l e = at xs i (omega arith) e
+pub taking_more : (c : CardState) (k q : ℕ) (s : SeatState) (xs : List (Item LoadState)) (y : Item LoadState) → taking_in c k q s (xs ++ (y ∷ [])) ≡ taking_one c k q (taking_in c k q s xs) y
+taking_more c k q s [] y = refl
+taking_more c k q s (x ∷ xs) y = taking_more c k q (taking_one c k q s x) xs y
 
 -- Hearing and taking in leave the round.
 pub hearing_round : (c : CardState) (q from known : ℕ) (s : SeatState) → (hearing c q from known s).round ≡ s.round

@@ -1,8 +1,13 @@
-ghost use Rattle.std.specs.Prelude.{◌≡◌, ℕ, ◌<◌, [], length, slice_index_or};
-
 use notes::set::NoteSet;
 
 pub mod methods;
+
+// A card in an instance.
+#[derive(Clone, Copy, Drop)]
+pub struct Place {
+    pub instance: usize,
+    pub card: usize,
+}
 
 // Where a card stands in an instance: its round, 0 before it proposes; whom it has counted in that round; and whose proposals it knows.
 // A set of cards is held like a set of notes.
@@ -17,6 +22,4 @@ pub struct Seat {
 #[derive(Drop)]
 pub struct Seats {
     rows: [[Seat; 6]; 32],
-    ghost instances: { length rows ≡ 32 },
-    ghost row: { (k : ℕ) → k < 32 → length (slice_index_or rows k []) ≡ 6 },
 }

@@ -9,7 +9,6 @@ use crate::seats::Seats;
 use cards::Cards;
 use tables::ballots::Ballots;
 
-pub mod calls;
 pub mod consensus;
 mod laws;
 mod moves;

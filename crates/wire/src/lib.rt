@@ -3,6 +3,7 @@
 ghost use Rattle.std.specs.Prelude.{◌≡◌, ◌+◌, ◌≤◌, false, [], ◌++◌, length, is_ok, is_some, IfOk, if◌then◌else◌, nat_lt, slice_index_or};
 ghost use Rattle.std.specs.List.{slice_get, remove};
 ghost use Rattle.std.specs.Option.{unwrap_or};
+ghost use Rattle.std.specs.VecDeque.Iter.{deque_iter_rest};
 ghost use Rattle.parts.specs.Refusals.{lose_answer};
 ghost use Rattle.cards.specs.Cards.{cards_of, net_of};
 ghost use Rattle.wire.specs.Wires.{items_of, room_of, senders, joined, sending, sent, without_to};
@@ -10,7 +11,7 @@ ghost use Rattle.wire.specs.Wires.{items_of, room_of, senders, joined, sending, 
 use cards::Cards;
 use parts::refusal::Refusal;
 use std::alloc::{AllocError, Global};
-use std::collections::VecDeque;
+use std::collections::{VecDeque, vec_deque};
 
 // An item under way: its sender, a card or 7 for the carrier; its destination, likewise; and what it brings.
 #[derive(Clone, Copy, Drop)]
@@ -57,6 +58,13 @@ impl<P: Copy> Wire<P> {
         ensures { result ≡ slice_get (items_of self.now) item }
     {
         self.items.get(item).copied()
+    }
+
+    // The items, in order.
+    pub fn iter(&self) -> vec_deque::Iter<'_, Item<P>>
+        ensures { deque_iter_rest result ≡ items_of self.now }
+    {
+        self.items.iter()
     }
 
     // An item that finds no room does not join.

@@ -4,11 +4,11 @@ ghost use Rattle.std.specs.Option.{option_map};
 ghost use Rattle.parts.specs.Refusals.{lose_answer};
 ghost use Rattle.cards.specs.Cards.{cards_of, net_of};
 ghost use Rattle.wire.specs.Wires.{items_of, senders, sent, without_to};
-ghost use Rattle.flooding.specs.Mail.{load_of, item_state, mail_of, mail_room, taking_one, taking_at, taking_in};
+ghost use Rattle.flooding.specs.Mail.{load_of, item_state, mail_of, mail_room, taking_one, taking_in};
 ghost use Rattle.flooding.specs.Seats.{seat_of};
 
 use super::{Load, Mail};
-use crate::seats::Seat;
+use crate::seats::{Place, Seat};
 use cards::Cards;
 use parts::refusal::Refusal;
 use std::alloc::{AllocError, Global};
@@ -49,6 +49,7 @@ impl Mail {
     pub(crate) fn keep(&mut self, item: Item<Load>)
         requires { length (mail_of self.old) < mail_room self.old }
         ensures items { mail_of self.new ≡ mail_of self.old ++ item_state item ∷ [] }
+        ensures grown { length (mail_of self.new) ≡ length (mail_of self.old) + 1 }
         ensures room { mail_room self.new ≡ mail_room self.old }
     {
         self.items.join(item);
@@ -83,39 +84,21 @@ impl Mail {
     }
 
     // The card takes in what is kept for its round.
-    pub(crate) fn take_in(&self, cards: &Cards, instance: usize, card: usize, seat: Seat) -> Seat
-        ensures { seat_of result ≡ taking_in (cards_of cards.now) instance card (seat_of seat) (mail_of self.now) }
+    pub(crate) fn take_in(&self, cards: &Cards, place: Place, seat: Seat) -> Seat
+        ensures seat { seat_of result ≡ taking_in (cards_of cards.now) place.instance place.card (seat_of seat) (mail_of self.now) }
+        ensures round { result.round ≡ seat.round }
     {
-        let mut taken = seat;
-        for place in 0..self.items.len() {
-            taken = self.take_in_at(cards, instance, card, taken, place);
-        }
-        taken
-    }
-
-    fn take_in_at(
-        &self,
-        cards: &Cards,
-        instance: usize,
-        card: usize,
-        seat: Seat,
-        place: usize,
-    ) -> Seat
-        ensures { seat_of result ≡ taking_at (cards_of cards.now) instance card (seat_of seat) (option_map item_state (slice_get (items_of self.now.items) place)) }
-    {
-        match self.items.get(place) {
-            Some(item) => take_in_one(cards, instance, card, seat, item),
-            None => seat,
-        }
+        self.items.iter().fold(seat, |taken, item| take_in_one(cards, place, taken, *item))
     }
 }
 
 // Whether the card suspects the sender is judged now.
-fn take_in_one(cards: &Cards, instance: usize, card: usize, seat: Seat, item: Item<Load>) -> Seat
-    ensures { seat_of result ≡ taking_one (cards_of cards.now) instance card (seat_of seat) (item_state item) }
+fn take_in_one(cards: &Cards, place: Place, seat: Seat, item: Item<Load>) -> Seat
+    ensures { seat_of result ≡ taking_one (cards_of cards.now) place.instance place.card (seat_of seat) (item_state item) }
 {
-    if item.load.instance == instance && item.load.round == seat.round && item.to == card {
-        seat.hear(cards, card, item.from, item.load.known)
+    let load = item.load;
+    if load.instance == place.instance && load.round == seat.round && item.to == place.card {
+        seat.hear(cards, item)
     } else {
         seat
     }

@@ -6,15 +6,18 @@ ghost use Rattle.flooding.specs.Means.{new_means, propose_means, carry_means, lo
 ghost use Rattle.flooding.specs.Lawful.{lawful};
 
 use super::Flooding;
+use crate::mail::Mail;
+use crate::seats::{Place, Seats};
+use cards::Cards;
 use notes::set::NoteSet;
 use parts::consensus::Consensus;
 use parts::refusal::Refusal;
 use std::alloc::{AllocError, Global};
+use tables::ballots::Ballots;
 
 // A proposer sends in at most 6 rounds, to at most 5 others in each.
 const ITEMS_OF_A_PROPOSAL: u32 = 30;
 
-// Each method is the one of the same name of Flooding itself.
 impl Consensus for Flooding {
     ghost State = { FloodingState };
 
@@ -68,27 +71,48 @@ impl Consensus for Flooding {
     } };
 
     fn new(heap: Global, count: usize) -> Result<Flooding, AllocError> {
-        Flooding::new(heap, count)
+        let wire = Mail::new(heap)?;
+        let kept = Mail::new(heap)?;
+        Ok(Flooding {
+            cards: Cards::new(count),
+            proposals: Ballots::new(),
+            decisions: Ballots::new(),
+            seats: Seats::new(),
+            wire,
+            kept,
+        })
     }
 
+    // A proposer knows itself and enters round 1.
     fn propose(&mut self, instance: usize, card: usize, notes: NoteSet) -> Result<(), Refusal> {
-        self.propose(instance, card, notes)
+        self.proposals.propose(&self.cards, instance, card, notes)?;
+        let place = Place { instance, card };
+        self.enter(place, 1, NoteSet::empty().with(card));
+        self.settle(place);
+        Ok(())
     }
 
     fn carry(&mut self, item: usize) -> Result<(), Refusal> {
-        self.carry(item)
+        let taken = self.wire.take(item).ok_or(Refusal::NoSuchItem)?;
+        self.arrive(taken);
+        Ok(())
     }
 
     fn lose(&mut self, item: usize) -> Result<(), Refusal> {
-        self.lose(item)
+        self.wire.lose(&self.cards, item)
     }
 
     fn crash(&mut self, card: usize) -> Result<(), Refusal> {
-        self.crash(card)
+        self.cards.crash(card)?;
+        self.wire.let_go(card);
+        Ok(())
     }
 
+    // The suspicion is worked through by ascending instance.
     fn suspect(&mut self, by: usize, card: usize) -> Result<(), Refusal> {
-        self.suspect(by, card)
+        self.cards.suspect(by, card)?;
+        self.settle_all(by);
+        Ok(())
     }
 
     fn bound() -> u32 {
@@ -96,30 +120,30 @@ impl Consensus for Flooding {
     }
 
     fn card_count(&self) -> usize {
-        self.card_count()
+        self.cards.count()
     }
 
     fn has_crashed(&self, card: usize) -> bool {
-        self.has_crashed(card)
+        self.cards.has_crashed(card)
     }
 
     fn suspects(&self, by: usize, card: usize) -> bool {
-        self.suspects(by, card)
+        self.cards.suspects(by, card)
     }
 
     fn wire_len(&self) -> usize {
-        self.wire_len()
+        self.wire.len()
     }
 
     fn sender_of(&self, item: usize) -> Option<usize> {
-        self.sender_of(item)
+        self.wire.sender_of(item)
     }
 
     fn proposal_of(&self, instance: usize, card: usize) -> Option<NoteSet> {
-        self.proposal_of(instance, card)
+        self.proposals.of(instance, card)
     }
 
     fn decision_of(&self, instance: usize, card: usize) -> Option<NoteSet> {
-        self.decision_of(instance, card)
+        self.decisions.of(instance, card)
     }
 }

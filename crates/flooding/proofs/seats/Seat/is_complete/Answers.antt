@@ -1,13 +1,15 @@
-use Rattle.std.proofs.Common.{sym, arith}
+use Rattle.std.proofs.Common.{rules, refl, ◌∙◌, arith}
+use borrow.Author.Tests.{tests}
+use Rattle.std.proofs.lemmas.Iterator.{YieldsList-from_range}
+use Rattle.std.proofs.lemmas.Iterator.Search.{all_from_yields_List}
 use Rattle.cards.specs.Cards.{cards_of}
-use Rattle.flooding.specs.Seats.{seat_of}
-use Rattle.flooding.specs.Counted.{all_more, all_but}
+use Rattle.flooding.specs.Seats.{seat_of, accounted_for}
+use Rattle.flooding.specs.Counted.{all_in_range}
 use Rattle.flooding.proofs.seats.Seat.is_complete.Goals as goal
 
-pub returns-then-not-accounts_for : goal.returns-then-not-accounts_for
-returns-then-not-accounts_for c =
+pub returns : goal.returns
+returns c =
     let cards = cards_of c.args.cards.now in
-    sym (all_but cards c.args.card (seat_of c.args.self) cards.count c.loop-other.other (omega arith) (sym c.if-not-accounts_for.ensures))
-
-pub loop-other-preserved : goal.loop-other-preserved
-loop-other-preserved c = all_more (cards_of c.args.cards.now) c.args.card (seat_of c.args.self) c.loop-other.other c.loop-other.invariant (sym c.if-not-accounts_for.ensures)
+    let q = c.args.card in
+    let s = seat_of c.args.self in
+    all_from_yields_List (accounted_for cards q s) _ _ _ c.all.ensures.ran (YieldsList-from_range 0 c.count.result cards.count refl (omega arith)) (λ x b q k. search (rules, tests)) ∙ all_in_range cards q s cards.count

@@ -2,7 +2,7 @@ use Rattle.std.proofs.Common.{length, ap, arith}
 use Rattle.tables.specs.Tables.{free_ballots}
 use Rattle.flooding.specs.Room.{rounds_left}
 use Rattle.flooding.proofs.Rooms.{new_free, new_rounds}
-use Rattle.flooding.proofs.state.Flooding.new.Goals as goal
+use Rattle.flooding.proofs.state.consensus.FloodingConsensus.new.Goals as goal
 
 pub invariant_of-result : goal.invariant_of-result
 invariant_of-result c =

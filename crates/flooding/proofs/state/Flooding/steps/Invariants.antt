@@ -1,6 +1,0 @@
-use Rattle.std.proofs.Common.{◌≡◌}
-use Rattle.flooding.specs.Flooding.{flooding_of, steps_on}
-use Rattle.flooding.proofs.state.Flooding.steps.Given as goal
-
-abbrev pub invariant-loop-turn : goal.invariant-loop-turn
-invariant-loop-turn l = flooding_of l.self ≡ steps_on (flooding_of l.initial.self) l.instance l.card l._turn
