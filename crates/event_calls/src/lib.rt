@@ -1,21 +1,12 @@
 // The events of a schedule as calls on a carrier.
 #![tactic(auto)]
 
-ghost use Rattle.std.specs.Prelude.{◌≡◌, [], ◌∷◌, ◌++◌, map, IfOk, OnOk};
-ghost use Rattle.event_calls.specs.Calls.{wire_of, call_of};
+ghost use Rattle.std.specs.Prelude.{◌≡◌, map, IfOk};
+ghost use Rattle.event_calls.specs.Calls.{call_of};
 
-use entries::event::{Event, Wire};
+use entries::event::Event;
 use std::alloc::{AllocError, Global};
-use total_order::call::{Call, Wire as CarrierWire};
-
-fn wire_of(wire: Wire) -> CarrierWire
-    ensures { result ≡ wire_of wire }
-{
-    match wire {
-        Wire::Broadcast => CarrierWire::Broadcast,
-        Wire::Consensus => CarrierWire::Consensus,
-    }
-}
+use total_order::call::Call;
 
 // The call that an event makes.
 pub fn call_of(event: Event) -> Call
@@ -27,8 +18,8 @@ pub fn call_of(event: Event) -> Call
         Event::Take { card } => Call::Take(card as usize),
         Event::Crash { card } => Call::Crash(card as usize),
         Event::Suspect { by, card } => Call::Suspect(by as usize, card as usize),
-        Event::Carry { wire, item } => Call::Carry(wire_of(wire), item as usize),
-        Event::Lose { wire, item } => Call::Lose(wire_of(wire), item as usize),
+        Event::Carry { wire, item } => Call::Carry(wire, item as usize),
+        Event::Lose { wire, item } => Call::Lose(wire, item as usize),
         Event::Settle { limit } => Call::Settle(limit as usize),
     }
 }
@@ -37,16 +28,5 @@ pub fn call_of(event: Event) -> Call
 pub fn calls_of(heap: Global, events: &[Event]) -> Result<Vec<Call>, AllocError>
     ensures { IfOk result (λ calls. calls.items ≡ map call_of events.now) }
 {
-    let mut calls = Vec::new(heap);
-    for event in events {
-        push_call(&mut calls, *event)?;
-    }
-    Ok(calls)
-}
-
-fn push_call(calls: &mut Vec<Call>, event: Event) -> Result<(), AllocError>
-    ensures { OnOk result (calls.new.items ≡ calls.old.items ++ (call_of event ∷ [])) }
-{
-    calls.push(call_of(event))?;
-    Ok(())
+    events.iter().map(|event| call_of(*event)).collect(heap)
 }

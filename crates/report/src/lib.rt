@@ -16,6 +16,7 @@ use event_calls::calls_of;
 use faults::FileFault;
 use reader::file::{Notes, Schedule, Unread};
 use reader::read::read;
+use runs::Script;
 use schedule::contents::Pile;
 use std::alloc::{AllocError, Global};
 use total_order::call::Call;
@@ -58,13 +59,9 @@ fn report_schedule(heap: Global, schedule: Schedule<'_>) -> Result<String, Alloc
         events,
     } = schedule;
     let calls = calls_of(heap, events.as_slice())?;
-    report_notes(
-        heap,
-        contents.pile,
-        contents.cards as usize,
-        notes,
-        calls.as_slice(),
-    )
+    let calls = calls.as_slice();
+    let cards = contents.cards as usize;
+    report_notes(heap, contents.pile, cards, notes, calls)
 }
 
 // The notes rank as their kind has it.
@@ -78,10 +75,14 @@ fn report_notes(
     ensures { IfOk result (λ out. string_bytes out ≡ over_pile (cards_of cards (how_many_notes (noted_in notes.entry))) (ranked_notes (noted_in notes.entry)) calls.now pile) }
 {
     match notes {
-        Notes::Wears(wears) => report_on(heap, pile, cards, wears.as_slice(), calls),
+        Notes::Wears(wears) => {
+            let book = wears.as_slice();
+            report_on(heap, pile, &Script { cards, book, calls })
+        }
         Notes::Labels(labels) => {
-            labels_rank_by_bytes(labels.as_slice());
-            report_on(heap, pile, cards, labels.as_slice(), calls)
+            let book = labels.as_slice();
+            labels_rank_by_bytes(book);
+            report_on(heap, pile, &Script { cards, book, calls })
         }
     }
 }
