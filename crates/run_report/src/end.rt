@@ -28,7 +28,10 @@ pub(crate) fn write_end<B: Broadcast, C: Consensus>(
     Ok(())
 }
 
-fn write_logs<B: Broadcast, C: Consensus>(out: &mut String, carrier: &Carrier<B, C>) -> Result<(), AllocError>
+fn write_logs<B: Broadcast, C: Consensus>(
+    out: &mut String,
+    carrier: &Carrier<B, C>,
+) -> Result<(), AllocError>
     ensures { OnOk result (string_bytes out.new ≡ string_bytes out.old ++ lines_text (log_lines B.Broadcast C.Consensus (model B.Broadcast C.Consensus carrier.now))) }
 {
     for card in 0..carrier.card_count() {

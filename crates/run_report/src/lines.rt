@@ -32,7 +32,12 @@ fn write_refusal(out: &mut String, event: usize, answer: Answer) -> Result<(), A
 }
 
 // The card, whether it runs, and the notes of its log.
-pub(crate) fn write_log(out: &mut String, card: usize, crashed: bool, log: &[usize]) -> Result<(), AllocError>
+pub(crate) fn write_log(
+    out: &mut String,
+    card: usize,
+    crashed: bool,
+    log: &[usize],
+) -> Result<(), AllocError>
     ensures { OnOk result (string_bytes out.new ≡ string_bytes out.old ++ lines_text (log_line card crashed log.now ∷ [])) }
 {
     log_line_is(out, card, crashed, log);

@@ -122,10 +122,7 @@ fn make_call<B: Broadcast, C: Consensus>(
 }
 
 // The order law, of the end of any run. This function does nothing: it states the law.
-fn order_law<K: Kind, B: Broadcast, C: Consensus>(
-    script: &Script<'_, K>,
-    end: &RunEnd<B, C>,
-)
+fn order_law<K: Kind, B: Broadcast, C: Consensus>(script: &Script<'_, K>, end: &RunEnd<B, C>)
     requires ranked { RankingOrder K.Kind.precedes script.now.book.now (in_ranking_order K.Kind.precedes script.now.book.now) }
     requires carrier { model B.Broadcast C.Consensus end.now.carrier ≡ left_by B.Broadcast C.Consensus (fresh B.Broadcast C.Consensus (cards_of script.now.cards (length script.now.book.now)) (in_ranking_order K.Kind.precedes script.now.book.now)) script.now.calls.now }
     requires answers { end.now.answers.items ≡ answers_to B.Broadcast C.Consensus (fresh B.Broadcast C.Consensus (cards_of script.now.cards (length script.now.book.now)) (in_ranking_order K.Kind.precedes script.now.book.now)) script.now.calls.now }
