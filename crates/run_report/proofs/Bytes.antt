@@ -1,6 +1,9 @@
 -- The bytes of lines.
-use Rattle.std.proofs.Common.{◌≡◌, ℕ, List, [], ◌∷◌, ◌++◌, sym, refl, ap, ◌∙◌, append_assoc}
-use Rattle.run_report.specs.Lines.{Line, lines_text}
+use Rattle.std.proofs.Common.{◌≡◌, ℕ, Bool, Err, map, codes, decimal, List, [], ◌∷◌, ◌++◌, sym, refl, ap, ◌∙◌, append_assoc}
+use Rattle.text.specs.Written.{spaced_after}
+use Rattle.parts.specs.Refusals.{number}
+use Rattle.parts.specs.declared.refusal.Refusal.{Refusal}
+use Rattle.run_report.specs.Lines.{Line, lines_text, refusal_line, card_word, log_line, rest_word, steps_line}
 
 -- Two words and what follows them in the line.
 pub two_words : (a b more : List ℕ) → (a ++ (32 ∷ (b ++ more))) ++ (10 ∷ []) ≡ a ++ (32 ∷ (b ++ (more ++ (10 ∷ []))))
@@ -9,6 +12,18 @@ two_words a b more = append_assoc a (32 ∷ (b ++ more)) (10 ∷ []) ∙ ap (λ 
 -- The same behind other bytes, in three parts.
 pub in_three_parts : (out front a b more : List ℕ) → ((out ++ (front ++ (a ++ (32 ∷ b)))) ++ more) ++ (10 ∷ []) ≡ out ++ (front ++ ((a ++ (32 ∷ (b ++ more))) ++ (10 ∷ [])))
 in_three_parts out front a b more = simp append_assoc
+
+-- The words of each kind of line, from left to right.
+pub refusal_words : (event : ℕ) (e : Refusal) → lines_text (refusal_line event (Err e)) ≡ codes "no " ++ (decimal event ++ (codes " " ++ (decimal (number e) ++ codes "\n")))
+refusal_words event e = ap (λ z. codes "no " ++ z) (two_words (decimal event) (decimal (number e)) [])
+
+pub steps_words : (steps : ℕ) (rest : Bool) → lines_text (steps_line steps rest ∷ []) ≡ codes "steps " ++ (decimal steps ++ (codes " " ++ (rest_word rest ++ codes "\n")))
+steps_words steps rest = ap (λ z. codes "steps " ++ z) (two_words (decimal steps) (rest_word rest) [])
+
+-- It is written in three parts.
+pub log_words : (out : List ℕ) (card : ℕ) (crashed : Bool) (log : List ℕ)
+    → ((out ++ (codes "log " ++ (decimal card ++ (codes " " ++ card_word crashed)))) ++ spaced_after (map decimal log)) ++ codes "\n" ≡ out ++ lines_text (log_line card crashed log ∷ [])
+log_words out card crashed log = in_three_parts out (codes "log ") (decimal card) (card_word crashed) (spaced_after (map decimal log))
 
 -- Lines after lines.
 pub lines_append : (xs ys : List Line) → lines_text (xs ++ ys) ≡ lines_text xs ++ lines_text ys

@@ -4,7 +4,6 @@ ghost use Rattle.total_order.specs.Models.{model};
 ghost use Rattle.run_report.specs.Lines.{lines_text};
 ghost use Rattle.run_report.specs.Reports.{log_line_of, log_lines, end_text};
 
-use self::facts::end_has_three_parts;
 use crate::lines::{write_log, write_refusals, write_steps};
 use parts::broadcast::Broadcast;
 use parts::consensus::Consensus;
@@ -12,8 +11,7 @@ use std::alloc::AllocError;
 use total_order::call::Answer;
 use total_order::carrier::Carrier;
 
-mod facts;
-
+#[tactic(auto, using(crate::proofs::Bytes::three_parts))]
 pub(crate) fn write_end<B: Broadcast, C: Consensus>(
     out: &mut String,
     carrier: &Carrier<B, C>,
@@ -21,7 +19,6 @@ pub(crate) fn write_end<B: Broadcast, C: Consensus>(
 ) -> Result<(), AllocError>
     ensures { OnOk result (string_bytes out.new ≡ string_bytes out.old ++ end_text B.Broadcast C.Consensus answers.now (model B.Broadcast C.Consensus carrier.now)) }
 {
-    end_has_three_parts(out, carrier, answers);
     write_refusals(out, answers)?;
     write_logs(out, carrier)?;
     write_steps(out, carrier.steps(), carrier.is_at_rest())?;

@@ -3,11 +3,8 @@ ghost use Rattle.std.specs.Prelude.{◌≡◌, [], ◌∷◌, ◌++◌, map, str
 ghost use Rattle.text.specs.Written.{spaced_after};
 ghost use Rattle.run_report.specs.Lines.{lines_text, refusal_line, refusal_lines, card_word, log_line, rest_word, steps_line};
 
-use self::facts::{log_line_is, refusal_line_is, steps_line_is};
 use std::alloc::AllocError;
 use total_order::call::Answer;
-
-mod facts;
 
 // One line for each event that was refused.
 pub(crate) fn write_refusals(out: &mut String, answers: &[Answer]) -> Result<(), AllocError>
@@ -20,11 +17,11 @@ pub(crate) fn write_refusals(out: &mut String, answers: &[Answer]) -> Result<(),
 }
 
 // The number of the event, and the number of the refusal, if it was refused.
+#[tactic(auto, using(crate::proofs::Bytes::refusal_words))]
 fn write_refusal(out: &mut String, event: usize, answer: Answer) -> Result<(), AllocError>
     ensures { OnOk result (string_bytes out.new ≡ string_bytes out.old ++ lines_text (refusal_line event answer)) }
 {
     if let Err(refusal) = answer {
-        refusal_line_is(event, refusal);
         let number = refusal.number();
         write!(out, "no {event} {number}\n")?;
     }
@@ -32,6 +29,7 @@ fn write_refusal(out: &mut String, event: usize, answer: Answer) -> Result<(), A
 }
 
 // The card, whether it runs, and the notes of its log.
+#[tactic(auto, using(crate::proofs::Bytes::log_words))]
 pub(crate) fn write_log(
     out: &mut String,
     card: usize,
@@ -40,7 +38,6 @@ pub(crate) fn write_log(
 ) -> Result<(), AllocError>
     ensures { OnOk result (string_bytes out.new ≡ string_bytes out.old ++ lines_text (log_line card crashed log.now ∷ [])) }
 {
-    log_line_is(out, card, crashed, log);
     let word = card_word(crashed);
     write!(out, "log {card} {word}")?;
     write_notes(out, log)?;
@@ -65,10 +62,10 @@ fn write_notes(out: &mut String, log: &[usize]) -> Result<(), AllocError>
 }
 
 // The steps, and whether the carrier is at rest.
+#[tactic(auto, using(crate::proofs::Bytes::steps_words))]
 pub(crate) fn write_steps(out: &mut String, steps: usize, at_rest: bool) -> Result<(), AllocError>
     ensures { OnOk result (string_bytes out.new ≡ string_bytes out.old ++ lines_text (steps_line steps at_rest ∷ [])) }
 {
-    steps_line_is(steps, at_rest);
     let word = rest_word(at_rest);
     write!(out, "steps {steps} {word}\n")?;
     Ok(())
