@@ -10,7 +10,6 @@ ghost use Rattle.run_report.specs.Lines.{lines_text};
 ghost use Rattle.report.specs.Stacks.{over_pile};
 ghost use Rattle.report.specs.Reports.{how_many_notes, ranked_notes, schedule_report, report_of};
 
-use crate::facts::{fault_line_is, labels_rank_by_bytes};
 use crate::stacks::report_on;
 use event_calls::calls_of;
 use faults::FileFault;
@@ -21,7 +20,6 @@ use schedule::contents::Pile;
 use std::alloc::{AllocError, Global};
 use total_order::call::Call;
 
-mod facts;
 mod stacks;
 
 // The bytes of the whole report of a file, unless memory is wanting.
@@ -43,10 +41,10 @@ fn report_text(heap: Global, file: &[u8]) -> Result<String, AllocError>
 }
 
 // The cause, the place and the layer of the fault.
+#[tactic(auto, using(crate::proofs::Ranks::fault_words))]
 fn report_fault(heap: Global, fault: FileFault) -> Result<String, AllocError>
     ensures { IfOk result (λ out. string_bytes out ≡ lines_text ((codes "bad" ∷ fault_text fault ∷ []) ∷ [])) }
 {
-    fault_line_is(fault);
     format!(in heap; "bad {fault}\n")
 }
 
@@ -64,7 +62,8 @@ fn report_schedule(heap: Global, schedule: Schedule<'_>) -> Result<String, Alloc
     report_notes(heap, contents.pile, cards, notes, calls)
 }
 
-// The notes rank as their kind has it.
+// The notes rank as their kind has it: labels by their bytes, wherever they stand in the file.
+#[tactic(auto, using(crate::proofs::Ranks::as_many_labels, crate::proofs::Ranks::labels_rank_by_bytes))]
 fn report_notes(
     heap: Global,
     pile: Pile,
@@ -81,7 +80,6 @@ fn report_notes(
         }
         Notes::Labels(labels) => {
             let book = labels.as_slice();
-            labels_rank_by_bytes(book);
             report_on(heap, pile, &Script { cards, book, calls })
         }
     }
