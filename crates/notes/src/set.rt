@@ -1,6 +1,5 @@
 // A set of notes as a 32-bit number: bit m stands for note m.
-ghost use Rattle.std.specs.Prelude.{◌≡◌, ℕ, ◌^◌, ◌<◌, Bool, true, false, not, ◌&&◌, ◌||◌, MatchOption, ◌==◌, bit_or, count_ones, nat_lt};
-ghost use Rattle.std.specs.Int.Count.{count_trailing_zeros};
+ghost use Rattle.std.specs.Prelude.{◌≡◌, ℕ, ◌<◌, true, false, not, ◌&&◌, ◌||◌, MatchOption, ◌==◌, bit_or, count_ones, nat_lt};
 ghost use Rattle.notes.specs.Sets.{has, added, minus, low, how_many};
 ghost use Rattle.notes.specs.Models.{bits};
 
