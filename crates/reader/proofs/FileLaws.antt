@@ -12,7 +12,3 @@ contents_ok (Err f) c e = absurd (grind arith)
 pub contents_err : (s : Result Whole FileFault) (f : FileFault) → Err f ≡ contents_in s → s ≡ Err f
 contents_err (Ok w) f e = absurd (grind arith)
 contents_err (Err g) f e = cc
-
--- what is read of values that stand for themselves
-pub itself : {A E : Type 0} (xs : List A) (q : Span) (s : Result (List A × Span) E) → Ok (map (λ x. x) xs, q) ≡ s → s ≡ Ok (xs, q)
-itself xs q s e = sym e ∙ ap (λ ys. Ok (ys, q)) (map-id xs)
