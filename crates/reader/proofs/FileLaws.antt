@@ -1,6 +1,5 @@
 -- What the answers of the parts say of the whole.
-use Rattle.std.proofs.Common.{◌≡◌, true, List, map, is_ok, Ok, Err, Result, sym, refl, ap, ◌∙◌, map-id, arith}
-use Rattle.text.specs.Parts.{Span}
+use Rattle.std.proofs.Common.{◌≡◌, true, is_ok, Ok, Err, Result, refl, arith}
 use Rattle.schedule.specs.declared.contents.Contents.{Contents}
 use Rattle.faults.specs.declared.FileFault.{FileFault}
 use Rattle.reader.specs.Files.{Whole, contents_in}
