@@ -32,44 +32,43 @@ fn draw_event(random: &mut Random, cards: u32, notes: u32) -> Event {
     let lot = random.below(100);
     let card = draw_number(random, cards, 8);
     let item = random.one_of(&[0, 0, 0, 1, 2, 3, 9]);
-    if lot < 20 {
-        let note = draw_number(random, notes, 34);
-        Event::Post { card, note }
-    } else if lot < 62 {
-        let wire = draw_wire(random);
-        Event::Carry { wire, item }
-    } else if lot < 72 {
-        Event::Propose { card }
-    } else if lot < 82 {
-        Event::Take { card }
-    } else {
-        draw_rarer(random, lot, card, item, cards)
+    match lot {
+        0..=19 => Event::Post {
+            card,
+            note: draw_number(random, notes, 34),
+        },
+        20..=61 => Event::Carry {
+            wire: draw_wire(random),
+            item,
+        },
+        62..=71 => Event::Propose { card },
+        72..=81 => Event::Take { card },
+        82..=84 => Event::Crash { card },
+        85..=90 => Event::Suspect {
+            by: draw_number(random, cards, 8),
+            card,
+        },
+        91..=94 => Event::Lose {
+            wire: draw_wire(random),
+            item,
+        },
+        _ => Event::Settle {
+            limit: random.one_of(&[0, 1, 2, 5, 20, 60000]),
+        },
     }
 }
 
-fn draw_rarer(random: &mut Random, lot: u32, card: u32, item: u32, cards: u32) -> Event {
-    if lot < 85 {
-        Event::Crash { card }
-    } else if lot < 91 {
-        let by = draw_number(random, cards, 8);
-        Event::Suspect { by, card }
-    } else if lot < 95 {
-        let wire = draw_wire(random);
-        Event::Lose { wire, item }
-    } else {
-        let limit = random.one_of(&[0, 1, 2, 5, 20, 60000]);
-        Event::Settle { limit }
+fn push_suspicions(events: &mut Vec<Event>, by: u32, cards: u32) -> Result<(), AllocError> {
+    for card in 0..cards {
+        events.push(Event::Suspect { by, card })?;
     }
+    Ok(())
 }
 
 // Every card suspects every other, as far as it may, and the carrier works on to rest.
 fn push_settling(events: &mut Vec<Event>, cards: u32) -> Result<(), AllocError> {
-    for pair in 0..36u32 {
-        let by = pair / 6;
-        let card = pair % 6;
-        if by < cards && card < cards {
-            events.push(Event::Suspect { by, card })?;
-        }
+    for by in 0..cards {
+        push_suspicions(events, by, cards)?;
     }
     events.push(Event::Settle { limit: 60000 })?;
     Ok(())
@@ -91,32 +90,6 @@ fn draw_events(
     Ok(events)
 }
 
-fn letter_of(wire: Wire) -> char {
-    match wire {
-        Wire::Broadcast => 'b',
-        Wire::Consensus => 'c',
-    }
-}
-
-fn line_of(heap: Global, event: Event) -> Result<String, AllocError> {
-    match event {
-        Event::Post { card, note } => format!(in heap; "b {card} {note}\n"),
-        Event::Propose { card } => format!(in heap; "p {card}\n"),
-        Event::Take { card } => format!(in heap; "t {card}\n"),
-        Event::Crash { card } => format!(in heap; "x {card}\n"),
-        Event::Suspect { by, card } => format!(in heap; "s {by} {card}\n"),
-        Event::Carry { wire, item } => {
-            let letter = letter_of(wire);
-            format!(in heap; "c {letter} {item}\n")
-        }
-        Event::Lose { wire, item } => {
-            let letter = letter_of(wire);
-            format!(in heap; "l {letter} {item}\n")
-        }
-        Event::Settle { limit } => format!(in heap; "r {limit}\n"),
-    }
-}
-
 // Few blocks and counts, so that many notes are equal.
 fn push_notes(
     heap: Global,
@@ -127,14 +100,14 @@ fn push_notes(
     for _ in 0..notes {
         let block = random.one_of(&[0, 1, 2, 4294967295]);
         let erases = random.one_of(&[0, 1, 5, 4294967295]);
-        file.push_str(format!(in heap; "{block} {erases}\n")?.as_str())?;
+        file.push_str(&format!(in heap; "{block} {erases}\n")?)?;
     }
     Ok(())
 }
 
 fn push_events(heap: Global, file: &mut String, events: &[Event]) -> Result<(), AllocError> {
     for event in events {
-        file.push_str(line_of(heap, *event)?.as_str())?;
+        file.push_str(&format!(in heap; "{event}\n")?)?;
     }
     Ok(())
 }
@@ -149,7 +122,7 @@ pub(crate) fn draw(heap: Global, random: &mut Random, pile: Pile) -> Result<Draw
         "kind wear\ncards {cards}\npile {words}\nnotes {notes}\nevents {count}\n"
     )?;
     push_notes(heap, &mut file, random, notes)?;
-    push_events(heap, &mut file, events.as_slice())?;
+    push_events(heap, &mut file, &events)?;
     Ok(Drawn {
         cards,
         events,

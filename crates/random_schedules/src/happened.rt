@@ -17,7 +17,7 @@ impl Happened {
             suspicions: [[false; 6]; 6],
             posts: 0,
         };
-        for (event, refused) in events.iter().zip(outcome.refused.iter()) {
+        for (event, refused) in events.iter().zip(&outcome.refused) {
             if !*refused {
                 happened.note(*event);
             }
@@ -34,31 +34,28 @@ impl Happened {
     }
 
     fn note_post(&mut self, card: u32, note: u32) {
-        let place = note as usize;
-        if place < 32 {
-            self.posters[place] = Some(card);
+        if let Some(poster) = self.posters.get_mut(note as usize) {
+            *poster = Some(card);
             self.posts = self.posts.saturating_add(1);
         }
     }
 
     fn note_suspicion(&mut self, by: usize, card: usize) {
-        if by < 6 && card < 6 {
-            let mut row = self.suspicions[by];
-            row[card] = true;
-            self.suspicions[by] = row;
+        if let Some(row) = self.suspicions.get_mut(by) {
+            if let Some(suspects) = row.get_mut(card) {
+                *suspects = true;
+            }
         }
     }
 
     pub(crate) fn poster_of(&self, note: u32) -> Option<u32> {
-        let place = note as usize;
-        if place < 32 {
-            self.posters[place]
-        } else {
-            None
-        }
+        self.posters.get(note as usize).copied().flatten()
     }
 
     pub(crate) fn suspects(&self, by: usize, card: usize) -> bool {
-        by < 6 && card < 6 && self.suspicions[by][card]
+        self.suspicions
+            .get(by)
+            .and_then(|row| row.get(card))
+            .is_some_and(|suspects| *suspects)
     }
 }

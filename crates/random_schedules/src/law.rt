@@ -17,76 +17,49 @@ fn one_begins_the_other(a: &[u32], b: &[u32]) -> bool {
 
 // No note twice, and only posted ones.
 fn holds_posted_notes_once(log: &[u32], happened: &Happened) -> bool {
-    let mut seen = [false; 32];
-    for note in log {
-        let place = *note as usize;
-        if place >= 32 || seen[place] || happened.poster_of(*note).is_none() {
-            return false;
-        }
-        seen[place] = true;
-    }
-    true
+    log.iter().enumerate().all(|(place, note)| {
+        happened.poster_of(*note).is_some()
+            && !log.iter().take(place).any(|earlier| earlier == note)
+    })
 }
 
 fn begins_or_is_begun_by_all(log: &[u32], logs: &[CardLog]) -> bool {
-    for other in logs {
-        if !one_begins_the_other(log, other.notes.as_slice()) {
-            return false;
-        }
-    }
-    true
+    logs.iter()
+        .all(|other| one_begins_the_other(log, &other.notes))
 }
 
 fn suspects_all_crashed(by: usize, logs: &[CardLog], happened: &Happened) -> bool {
-    for (card, log) in logs.iter().enumerate() {
-        if log.down && !happened.suspects(by, card) {
-            return false;
-        }
-    }
-    true
+    logs.iter()
+        .enumerate()
+        .all(|(card, log)| !log.down || happened.suspects(by, card))
 }
 
 fn is_under_full_suspicion(logs: &[CardLog], happened: &Happened) -> bool {
-    for (by, log) in logs.iter().enumerate() {
-        if !log.down && !suspects_all_crashed(by, logs, happened) {
-            return false;
-        }
-    }
-    true
+    logs.iter().enumerate().all(|(by, log)| log.down || suspects_all_crashed(by, logs, happened))
 }
 
 // At rest: the other running logs are equal to this one; over a uniform broadcast the crashed ones begin it.
 fn agrees_with_all(log: &[u32], logs: &[CardLog], uniform: bool) -> bool {
-    for other in logs {
-        let agrees = if other.down {
-            !uniform || log.starts_with(other.notes.as_slice())
+    logs.iter().all(|other| {
+        if other.down {
+            !uniform || log.starts_with(&other.notes)
         } else {
             log == other.notes.as_slice()
-        };
-        if !agrees {
-            return false;
         }
-    }
-    true
+    })
 }
 
 fn is_down(card: u32, logs: &[CardLog]) -> bool {
-    match logs.get(card as usize) {
-        Some(log) => log.down,
-        None => true,
-    }
+    logs.get(card as usize).is_none_or(|log| log.down)
 }
 
 // At rest: it holds all that running cards posted.
 fn holds_what_running_cards_posted(log: &[u32], logs: &[CardLog], happened: &Happened) -> bool {
-    for note in 0..32u32 {
-        if let Some(poster) = happened.poster_of(note) {
-            if !is_down(poster, logs) && !log.contains(&note) {
-                return false;
-            }
-        }
-    }
-    true
+    (0..32u32).all(|note| {
+        happened
+            .poster_of(note)
+            .is_none_or(|poster| is_down(poster, logs) || log.contains(&note))
+    })
 }
 
 fn is_log_lawful(
@@ -97,13 +70,13 @@ fn is_log_lawful(
     uniform: bool,
 ) -> bool {
     let notes = log.notes.as_slice();
-    if !holds_posted_notes_once(notes, happened) || !begins_or_is_begun_by_all(notes, logs) {
-        return false;
-    }
-    if !settled || log.down {
-        return true;
-    }
-    agrees_with_all(notes, logs, uniform) && holds_what_running_cards_posted(notes, logs, happened)
+    let agrees = || {
+        agrees_with_all(notes, logs, uniform)
+            && holds_what_running_cards_posted(notes, logs, happened)
+    };
+    holds_posted_notes_once(notes, happened)
+        && begins_or_is_begun_by_all(notes, logs)
+        && (!settled || log.down || agrees())
 }
 
 fn are_steps_within_bound(steps: u32, posts: u32, cards: u32, pile: Pile) -> bool {
@@ -112,13 +85,11 @@ fn are_steps_within_bound(steps: u32, posts: u32, cards: u32, pile: Pile) -> boo
 }
 
 pub(crate) fn judge(drawn: &Drawn, outcome: &Outcome, pile: Pile) -> Verdict {
-    let happened = Happened::of(drawn.events.as_slice(), outcome);
+    let happened = Happened::of(&drawn.events, outcome);
     let logs = outcome.logs.as_slice();
     let settled = outcome.at_rest && is_under_full_suspicion(logs, &happened);
-    let mut lawful = logs.len() == drawn.cards as usize;
-    lawful &= are_steps_within_bound(outcome.steps, happened.posts, drawn.cards, pile);
-    for log in logs {
-        lawful &= is_log_lawful(log, logs, &happened, settled, pile.uniform);
-    }
+    let lawful = logs.len() == drawn.cards as usize
+        && are_steps_within_bound(outcome.steps, happened.posts, drawn.cards, pile)
+        && logs.iter().all(|log| is_log_lawful(log, logs, &happened, settled, pile.uniform));
     Verdict { lawful, settled }
 }

@@ -21,11 +21,11 @@ const ROUNDS: u32 = 250;
 
 fn verdict_on(rt: &HostRuntime, drawn: &Drawn, pile: Pile) -> anyhow::Result<Verdict> {
     let came = report(rt.alloc(), drawn.file.as_bytes())?;
-    let text = String::from_utf8_lossy(rt.alloc(), came.as_slice())?;
-    let outcome = read_report(rt.alloc(), text.as_str(), drawn.events.len())?;
+    let text = String::from_utf8_lossy(rt.alloc(), &came)?;
+    let outcome = read_report(rt.alloc(), &text, drawn.events.len())?;
     let verdict = judge(drawn, &outcome, pile);
     if !verdict.lawful {
-        let file = drawn.file.as_str();
+        let file = &drawn.file;
         println!(rt; "the law does not hold of the report of this schedule:")?;
         print!(rt; "{file}")?;
     }

@@ -1,5 +1,5 @@
 // What a report says.
-use anyhow::anyhow;
+use anyhow::{Context, bail};
 use std::alloc::Global;
 
 #[derive(Drop)]
@@ -19,10 +19,8 @@ pub(crate) struct CardLog {
 }
 
 fn number_in(field: Option<&str>) -> anyhow::Result<u32> {
-    match field {
-        Some(text) => Ok(text.parse::<u32>()?),
-        None => Err(anyhow!("a line of the report ends too early")),
-    }
+    let text = field.context("a line of the report ends too early")?;
+    Ok(text.parse()?)
 }
 
 fn notes_in(heap: Global, fields: &str) -> anyhow::Result<Vec<u32>> {
@@ -36,22 +34,19 @@ fn notes_in(heap: Global, fields: &str) -> anyhow::Result<Vec<u32>> {
 impl Outcome {
     fn note_refusal(&mut self, fields: &str) -> anyhow::Result<()> {
         let event = number_in(fields.split(' ').next())? as usize;
-        match self.refused.get_mut(event) {
-            Some(refused) => {
-                *refused = true;
-                Ok(())
-            }
-            None => Err(anyhow!("the report refuses an event that there is not")),
-        }
+        let refused = self
+            .refused
+            .get_mut(event)
+            .context("the report refuses an event that there is not")?;
+        *refused = true;
+        Ok(())
     }
 
     // The cards come in ascending order, so a log's place is its card.
     fn note_log(&mut self, heap: Global, fields: &str) -> anyhow::Result<()> {
-        let Some((card, rest)) = fields.split_once(' ') else {
-            return Err(anyhow!("a log without its card"));
-        };
+        let (card, rest) = fields.split_once(' ').context("a log without its card")?;
         if number_in(Some(card))? as usize != self.logs.len() {
-            return Err(anyhow!("the logs are not in the order of the cards"));
+            bail!("the logs are not in the order of the cards");
         }
         let (state, notes) = rest.split_once(' ').unwrap_or((rest, ""));
         let notes = notes_in(heap, notes)?;
@@ -71,7 +66,7 @@ impl Outcome {
             Some(("no", fields)) => self.note_refusal(fields),
             Some(("log", fields)) => self.note_log(heap, fields),
             Some(("steps", fields)) => self.note_steps(fields),
-            _ => Err(anyhow!("a line of the report that no rule knows")),
+            _ => bail!("a line of the report that no rule knows"),
         }
     }
 }

@@ -1,6 +1,5 @@
 -- What the answers of the parts say of the whole.
-use Rattle.std.proofs.Common.{◌≡◌, true, List, map, is_ok, Ok, Err, Result, sym, refl, ap, ◌∙◌, map-id, arith}
-use Rattle.text.specs.Parts.{Span}
+use Rattle.std.proofs.Common.{◌≡◌, true, is_ok, Ok, Err, Result, refl, arith}
 use Rattle.schedule.specs.declared.contents.Contents.{Contents}
 use Rattle.faults.specs.declared.FileFault.{FileFault}
 use Rattle.reader.specs.Files.{Whole, contents_in}
@@ -12,7 +11,3 @@ contents_ok (Err f) c e = absurd (grind arith)
 pub contents_err : (s : Result Whole FileFault) (f : FileFault) → Err f ≡ contents_in s → s ≡ Err f
 contents_err (Ok w) f e = absurd (grind arith)
 contents_err (Err g) f e = cc
-
--- what is read of values that stand for themselves
-pub itself : {A E : Type 0} (xs : List A) (q : Span) (s : Result (List A × Span) E) → Ok (map (λ x. x) xs, q) ≡ s → s ≡ Ok (xs, q)
-itself xs q s e = sym e ∙ ap (λ ys. Ok (ys, q)) (map-id xs)

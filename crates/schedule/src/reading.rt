@@ -16,6 +16,7 @@ use text::fault::LineFault;
 use text::field::{Field, Fields};
 use text::part::Part;
 
+// A word among two or three: a table of words and values would hold no less, and need a search besides.
 fn kind(word: Field) -> Option<NoteKind>
     ensures { result ≡ kind_in (field_of word.entry) }
 {
@@ -114,6 +115,7 @@ fn count(line: Part, key: &[u8], range: RangeInclusive<u32>) -> Option<u32>
     }
 }
 
+// As `first_line`, which takes no rule as a closure, since no public call requires anything.
 fn count_line<'a>(
     rest: Part<'a>,
     key: &[u8],

@@ -47,7 +47,7 @@ impl<'a> Part<'a> {
         Label::new(self.bytes(), self.place()).map(Field::Label)
     }
 
-    // The fields that single spaces part.
+    // The fields that single spaces part. Each number of them is a variant of its own, so each cut has its own answer.
     pub fn fields(self) -> Fields<'a>
         ensures { fields_of result ≡ cut_fields 4 (part_of self.entry) }
     {
