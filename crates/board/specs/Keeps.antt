@@ -1,10 +1,10 @@
 -- `new` and the calls make boards that hold together.
-use Rattle.std.specs.Prelude.{◌≡◌, ℕ, ◌<◌, Bool, true, false, ◌||◌, List, length, is_some, Some, None, Option, ◌==◌, ◌≢◌, slice_set, refl, Ok}
+use Rattle.std.specs.Prelude.{◌≡◌, ℕ, ◌<◌, Bool, true, false, ◌||◌, List, length, is_some, Some, None, ◌≢◌, slice_set, refl, Ok}
 use Rattle.std.proofs.Common.{sym, ap, subst, ◌∙◌, ⊎_elim, arith, length-set}
 use borrow.Author.Tests.{clash}
 use Rattle.std.specs.List.{slice_get, remove}
 use Rattle.std.proofs.ByRecursion.{All-append, All-weaker}
-use Rattle.std.proofs.lemmas.Bool.{or_cases, or_left, or_right, or_parts, and_parts, and_from, eqb-true, eqb-false, eq-eqb, ne_eqb, not-true, not_from_false, cases_Bool, cond-true, cond-false}
+use Rattle.std.proofs.lemmas.Bool.{or_cases, or_left, or_right, or_parts, and_parts, and_from, eqb-true, eqb-false, eq-eqb, ne_eqb, not-true, not_from_false}
 use Rattle.std.proofs.lemmas.Bool.Decides.{nat_tests}
 use Rattle.notes.specs.Sets.{has}
 use Rattle.notes.proofs.Bits.{has_none}
@@ -15,12 +15,13 @@ use Rattle.tables.specs.Tables.{poster_in, set_in, with_note}
 use Rattle.wire.specs.Wires.{sent, elsewhere, any_of}
 use Rattle.wire.specs.declared.Item.{Item}
 use Rattle.wire.proofs.Items.{all_removed, all_nth, all_left, all_sent_are, any_append, any_split, any_left, any_sent}
-use Rattle.cards.proofs.Lists.{written, same_all}
+use Rattle.cards.proofs.Lists.{same_all}
 use Rattle.cards.proofs.Nets.{new_sound, crash_sound, crash_more, suspect_sound}
 use Rattle.wire.proofs.Taken.{carried_item}
 use Rattle.board.specs.Board.{BoardState, seen, new_board, post_on, carry_on, crash_on, suspect_on}
 use Rattle.board.specs.Made.{Underway, brings, MadeBoard}
-use Rattle.board.specs.Changes.{posted_more, posted_below, goes_to_running, handed_more, handed_others_stay, handed_fits, carrier_sends}
+use Rattle.tables.proofs.Changes.{posted_more, posted_below, poster_each, noted_others_stay, noted_fits}
+use Rattle.board.specs.Changes.{goes_to_running, handed_more, carrier_sends}
 
 pub new_made : (n : ℕ) → MadeBoard (new_board n)
 new_made n =
@@ -38,13 +39,6 @@ new_made n =
 
 -- A post.
 
-poster_card : (t : List (Option ℕ)) (m p n j q : ℕ) → m < length t → p < n → ((i r : ℕ) → poster_in t i ≡ Some r → r < n) → poster_in (slice_set t m (Some p)) j ≡ Some q → q < n
-poster_card t m p n j q l h f e =
-    ⊎_elim
-    (λ s. let z : p ≡ q = let a = cond-true (j == m) (Some p) (poster_in t j) s in let b = written t m j (Some p) None l in cc in subst (λ r. r < n) z h)
-    (λ s. f j q (sym (cond-false (j == m) (Some p) (poster_in t j) s) ∙ sym (written t m j (Some p) None l) ∙ e))
-    (cases_Bool (j == m))
-
 pub post_made : (x : BoardState) (p m : ℕ) → MadeBoard x → post_answer (seen x) p m ≡ Ok tt → MadeBoard (post_on x p m)
 post_made x p m g h =
     let f = post_accepted (seen x) p m h in
@@ -57,7 +51,7 @@ post_made x p m g h =
       sound = g.sound;
       notes = simp length-set g.notes;
       sets = g.sets;
-      posters_cards = λ j q. poster_card x.posters m p c.count j q w f.0 g.posters_cards;
+      posters_cards = poster_each (λ j q. q < c.count) x.posters m p w f.0 g.posters_cards;
       items = All-append (Underway c (slice_set x.posters m (Some p))) x.wire more
           (All-weaker (Underway c x.posters) (Underway c (slice_set x.posters m (Some p))) (λ y u. record { carrier = u.carrier; card = u.card; up = u.up; posted = old y.load u.posted }) x.wire g.items)
           (all_sent_are (Underway c (slice_set x.posters m (Some p))) c 7 m c.count (λ to l t. record { carrier = refl; card = l; up = not-true _ (and_parts _ _ t).0; posted = new }));
@@ -90,8 +84,8 @@ hand_out_made x i y g e =
       posters_cards = g.posters_cards;
       items = all_removed (Underway x.cards x.posters) x.wire i g.items;
       handed_posted = λ p m h. ⊎_elim (λ a. g.handed_posted p m a) (λ a. subst (λ z. is_some (poster_in x.posters z) ≡ true) (eqb-true _ _ (and_parts _ _ a).0) u.posted) (or_cases _ _ (sym (handed_more x.handed y p m s l) ∙ h));
-      outside = λ p h. handed_others_stay x.handed y.to y.load p (λ q. omega (arith, u.card)) ∙ g.outside p h;
-      fits = λ p. handed_fits x.handed y.to y.load p s g.fits;
+      outside = λ p h. noted_others_stay x.handed y.to y.load p (λ q. omega (arith, u.card)) ∙ g.outside p h;
+      fits = λ p. noted_fits x.handed y.to y.load p s g.fits;
       due = λ p m h v d.
           ap (λ b. b || any_of (brings m p) (remove x.wire i)) (handed_more x.handed y p m s l)
           ∙ regroup (has (set_in x.handed p) m) (brings m p y) (any_of (brings m p) (remove x.wire i)) (ap (λ b. has (set_in x.handed p) m || b) (sym (any_split (brings m p) x.wire i y e)) ∙ g.due p m h v d);

@@ -1,5 +1,5 @@
 -- Each call, from what it makes of a board to what the interface says of it.
-use Rattle.std.specs.Prelude.{◌≡◌, ℕ, ◌<◌, Bool, true, false, ◌⊎◌, List, [], length, is_some, Some, None, refl, Ok}
+use Rattle.std.specs.Prelude.{◌≡◌, ℕ, ◌<◌, true, ◌⊎◌, List, length, is_some, Some, None, refl, Ok}
 use Rattle.std.proofs.Common.{sym, ap, subst, ◌∙◌, inr, ⊎_elim, arith}
 use borrow.Author.Tests.{clash}
 use Rattle.std.specs.List.{slice_get, remove}
@@ -24,7 +24,8 @@ use Rattle.wire.proofs.Wires.{length_sent, length_senders}
 use Rattle.wire.proofs.Taken.{carried_item}
 use Rattle.board.specs.Board.{BoardState, seen, new_board, post_on, carry_on, lose_on, crash_on, suspect_on}
 use Rattle.board.specs.Made.{Underway, brings, MadeBoard}
-use Rattle.board.specs.Changes.{posted_below, handed_more, handed_others_stay}
+use Rattle.tables.proofs.Changes.{posted_below, noted_others_stay, nothing_left, bool_same}
+use Rattle.board.specs.Changes.{handed_more}
 use Rattle.board.specs.Keeps.{none_lost}
 
 same_sets_handed : (v w : BroadcastView) → w.handed ≡ v.handed → HandedMore v w
@@ -54,7 +55,7 @@ carried_means x i y g e l =
       posters_stay = λ j. refl;
       handed_more = record {
         nothing_taken_out = λ p m h. handed_more x.handed y p m s (posted_below x.posters 32 y.load g.notes u.posted) ∙ or_left _ _ h;
-        crashed_sets_stay = λ p h. handed_others_stay x.handed y.to y.load p (λ q. both_ways _ (ap (crashed_in x.cards) q ∙ u.up) h);
+        crashed_sets_stay = λ p h. noted_others_stay x.handed y.to y.load p (λ q. both_ways _ (ap (crashed_in x.cards) q ∙ u.up) h);
       };
     }
 
@@ -80,14 +81,6 @@ suspect_means x q p g h =
     record { net = net_suspected x.cards q p _ _ _ _ g.sound f.0 f.1 (omega arith); posters_stay = λ j. refl; handed_more = same_sets_handed _ _ refl }
 
 -- At rest.
-
-bool_same : (a b : Bool) → (a ≡ true → b ≡ true) → (b ≡ true → a ≡ true) → a ≡ b
-bool_same true b f g = sym (f refl)
-bool_same false true f g = g refl
-bool_same false false f g = refl
-
-nothing_left : (xs : List (Item ℕ)) → senders xs ≡ [] → xs ≡ []
-nothing_left xs e = nil_from_length xs (sym (length_senders xs) ∙ ap length e)
 
 -- Each running card of a quiet board has just the posted notes.
 has_posted : (x : BoardState) → MadeBoard x → Quiet (seen x).net → (p m : ℕ) → Runs (seen x).net p → has (set_in x.handed p) m ≡ is_some (poster_in x.posters m)

@@ -1,5 +1,5 @@
 -- What is known of a card, written, in the list of the crashes and in that of the suspicions; and a question that is asked of every card.
-use Rattle.std.proofs.Common.{◌≡◌, ℕ, zero, suc, ◌+◌, ◌<◌, ◌≤◌, Bool, true, false, ◌⊎◌, List, [], ◌∷◌, map, get_or, set, sym, refl, ap, ◌∙◌, subst, ⊎_elim, arith}
+use Rattle.std.proofs.Common.{◌≡◌, ℕ, zero, suc, ◌+◌, ◌<◌, ◌≤◌, Bool, true, false, List, [], ◌∷◌, map, get_or, set, sym, refl, ap, ◌∙◌, subst, ⊎_elim, arith}
 use Rattle.std.specs.Bool.{Decides}
 use Rattle.std.specs.List.{range_with_len, list_all}
 use Rattle.std.proofs.lemmas.List.{map-set}
@@ -48,12 +48,12 @@ all_below : (test : ℕ → Bool) (n : ℕ) → Decides (list_all test (range_wi
 all_below test n = (λ t k l. all_from test 0 n t k (omega arith) (omega arith), λ f. from_all test 0 n (λ k _ l. f k (omega arith)))
 
 pub all_suspected : (c : CardState) (r : Bool) → r ≡ list_all (knows_all c) (range_with_len 0 c.count) → Decides r (AllSuspected c)
-all_suspected c r e =
-    ( λ t q p hq hp u d.
-          let k = (all_below (knows c q) c.count).0 ((all_below (knows_all c) c.count).0 (sym e ∙ t) q hq) p hp in
-          grind (arith, nat_tests, k)
-    , λ f. e ∙ (all_below (knows_all c) c.count).1 (λ q hq. (all_below (knows c q) c.count).1 (λ p hp. known q p (f q p hq hp)))
-    )
+all_suspected c r e = (
+  λ t q p hq hp u d.
+      let k = (all_below (knows c q) c.count).0 ((all_below (knows_all c) c.count).0 (sym e ∙ t) q hq) p hp in
+      grind (arith, nat_tests, k),
+  λ f. e ∙ (all_below (knows_all c) c.count).1 (λ q hq. (all_below (knows c q) c.count).1 (λ p hp. known q p (f q p hq hp))),
+)
   where
     known : (q p : ℕ) → (crashed_in c q ≡ false → crashed_in c p ≡ true → suspects_in c q p ≡ true) → knows c q p ≡ true
     known q p f =

@@ -13,7 +13,7 @@ pub mod consensus;
 #[derive(Drop)]
 pub struct Register {
     cards: Cards,
-    // Two tables and not one of pairs: a proposal is written as in flooding, which decides elsewhere.
+    // Two tables, not one of pairs: `Ballots` writes a proposal and a decision each by itself, here and in flooding.
     proposals: Ballots,
     decisions: Ballots,
     held: Held,

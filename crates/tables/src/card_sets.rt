@@ -1,3 +1,5 @@
+ghost use Rattle.std.specs.Prelude.{◌≡◌, length};
+
 use notes::set::NoteSet;
 
 pub mod methods;
@@ -6,4 +8,6 @@ pub mod methods;
 #[derive(Drop)]
 pub struct CardSets {
     sets: [NoteSet; 6],
+    // A proof about any table, with no code before it, learns the length only here.
+    ghost cards: { length sets ≡ 6 },
 }

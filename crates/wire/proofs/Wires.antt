@@ -1,13 +1,12 @@
 -- The wire: items by place, and room for what is sent.
-use Rattle.std.proofs.Common.{◌≡◌, ℕ, zero, suc, ◌+◌, ◌<◌, ◌≤◌, true, false, cond, ltb, List, [], ◌∷◌, ◌++◌, map, length, get_or, is_some, Some, None, Option, unwrap_or, sym, refl, ap, ◌∙◌, ⊎_elim, append_assoc, append-nil, add-one, arith}
+use Rattle.std.proofs.Common.{◌≡◌, ℕ, zero, suc, ◌+◌, ◌<◌, ◌≤◌, true, false, cond, ltb, List, [], ◌∷◌, ◌++◌, map, length, is_some, sym, refl, ap, ◌∙◌, ⊎_elim, append_assoc, append-nil, arith}
 use Rattle.std.specs.List.{slice_get, remove}
-use Rattle.std.specs.Option.{option_map, IsSome, IfSome, IfNone, OnSome}
+use Rattle.std.specs.Option.{option_map}
 use Rattle.std.proofs.lemmas.List.{length-append, length-map, take_all, drop_all}
-use Rattle.std.proofs.lemmas.Option.{slice_get_read, slice_get_past}
-use Rattle.std.proofs.lemmas.Bool.{false≢true, cases_Bool, cases_lt, cond-true, cond-false, cond_both, and_right, not_from_true, eq-eqb, lt-ltb, le-ltb}
+use Rattle.std.proofs.lemmas.Bool.{cases_Bool, cases_lt, cond-true, cond-false, cond_both, and_right, not_from_true, eq-eqb, lt-ltb, le-ltb}
 use Rattle.std.proofs.lemmas.Bool.Decides.{nat_tests}
 use Rattle.cards.specs.Cards.{CardState}
-use Rattle.wire.specs.Wires.{items_of, item, senders, joined, goes_to, sending, sent, elsewhere, without_to}
+use Rattle.wire.specs.Wires.{items_of, item, senders, joined, goes_to, sending, sent}
 use Rattle.std.specs.VecDeque.{deque_len}
 use Rattle.wire.specs.declared.Item.{Item}
 use Rattle.wire.specs.declared.Wire.{Wire}

@@ -24,6 +24,7 @@ impl Held {
     pub fn fill(&mut self, instance: usize, notes: Option<NoteSet>)
         ensures { held_of self.new ≡ filled (held_of self.old) instance (option_map bits notes) }
     {
+        // By index: what an array's `get_mut` writes, a proof does not know.
         if instance < 32 && self.of(instance).is_none() {
             self.sets[instance] = notes;
         }

@@ -82,8 +82,7 @@ impl Consensus for Register {
     }
 
     fn propose(&mut self, instance: usize, card: usize, notes: NoteSet) -> Result<(), Refusal> {
-        self.proposals
-            .propose(&self.cards, instance, card, notes)?;
+        self.proposals.propose(&self.cards, instance, card, notes)?;
         self.wire.join(Item {
             from: card,
             to: 7,

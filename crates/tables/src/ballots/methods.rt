@@ -31,6 +31,7 @@ impl Ballots {
     pub fn put(&mut self, instance: usize, card: usize, notes: Option<NoteSet>)
         ensures { ballots_of self.new ≡ with_ballot (ballots_of self.old) instance card (option_map bits notes) }
     {
+        // By index: what an array's `get_mut` writes, a proof does not know.
         if instance < 32 && card < 6 {
             self.rows[instance][card] = notes;
         }

@@ -41,6 +41,7 @@ impl CardSets {
     fn put(&mut self, card: usize, notes: NoteSet)
         ensures { card_sets_of self.new ≡ slice_set (card_sets_of self.old) card (bits notes) }
     {
+        // By index: what an array's `get_mut` writes, a proof does not know.
         if card < 6 {
             self.sets[card] = notes;
         }

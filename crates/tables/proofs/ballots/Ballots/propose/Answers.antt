@@ -1,4 +1,4 @@
-use Rattle.std.proofs.Common.{◌≡◌, [], false, is_some, sym, ap, ◌∙◌, refl, arith}
+use Rattle.std.proofs.Common.{◌≡◌, [], false, is_some, sym, ap, ◌∙◌, arith}
 use Rattle.notes.specs.Models.{bits}
 use Rattle.parts.proofs.Accepted.{crash_accepted}
 use Rattle.cards.specs.Cards.{cards_of, net_of}
