@@ -1,5 +1,5 @@
 -- What carrying all items comes to.
-use Rattle.std.proofs.Common.{◌≡◌, ℕ, zero, suc, ◌+◌, ◌-◌, ◌<◌, ◌≤◌, Bool, true, false, cond, ltb, List, [], length, sym, refl, ap, ◌∙◌, subst, ⊎_elim, arith, Ok, Err, Result, is_ok, is_err}
+use Rattle.std.proofs.Common.{◌≡◌, ℕ, zero, suc, ◌+◌, ◌-◌, ◌<◌, ◌≤◌, true, false, cond, ltb, List, [], length, sym, refl, ap, ◌∙◌, subst, ⊎_elim, arith, Ok, Err, Result, is_ok, is_err}
 use Rattle.std.proofs.lemmas.List.{nil_from_length}
 use Rattle.std.proofs.lemmas.Bool.{cases_Bool, cond-true, cond-false, both_ways, ltb-false}
 use Rattle.parts.specs.Views.{Net}

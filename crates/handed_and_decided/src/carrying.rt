@@ -24,7 +24,7 @@ pub fn carry_all<B: Broadcast>(broadcast: &mut B, limit: usize)
     }
 }
 
-// The same over any consensus.
+// The same over any consensus. One generic function is longer: a trait for what has a wire, with its laws, and an impl of it for each of the two.
 #[tactic(auto, using(crate::proofs::Emptied::one_turn))]
 pub fn carry_all_proposals<C: Consensus>(consensus: &mut C, limit: usize)
     ensures after { C.Consensus.state consensus.new ≡ carried_all C.Consensus.wire C.Consensus.carrying limit (C.Consensus.state consensus.old) }
