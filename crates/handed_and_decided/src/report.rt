@@ -1,8 +1,7 @@
 use notes::set::NoteSet;
 use parts::broadcast::Broadcast;
 use parts::consensus::Consensus;
-use std::fmt;
-use std::io;
+use std::{fmt, io};
 
 fn state(crashed: bool) -> &'static str {
     if crashed { "down" } else { "up" }
