@@ -11,41 +11,31 @@ use parts::consensus::Consensus;
 use parts::uniform::Uniform;
 
 // Carries the first item as long as there is one, at most `limit` times. If the limit covers the work, no item is left.
+#[tactic(auto, using(crate::proofs::Emptied::one_turn))]
 pub fn carry_all<B: Broadcast>(broadcast: &mut B, limit: usize)
     ensures after { B.Broadcast.state broadcast.new ≡ carried_all B.Broadcast.wire B.Broadcast.carrying limit (B.Broadcast.state broadcast.old) }
     ensures made { B.Broadcast.made (B.Broadcast.state broadcast.old) → B.Broadcast.made (B.Broadcast.state broadcast.new) }
     ensures empty { B.Broadcast.made (B.Broadcast.state broadcast.old) → B.Broadcast.work (B.Broadcast.state broadcast.old) ≤ limit → B.Broadcast.wire (B.Broadcast.state broadcast.new) ≡ [] }
 {
-    let mut left = limit;
-    while left > 0 && broadcast.wire_len() > 0 {
-        carry_first(broadcast);
-        left -= 1;
+    for _turn in 0..limit {
+        if broadcast.carry(0).is_err() {
+            return;
+        }
     }
 }
 
-fn carry_first<B: Broadcast>(broadcast: &mut B)
-    ensures { (k : ℕ) → 0 < k → 0 < length (B.Broadcast.wire (B.Broadcast.state broadcast.old)) → carried_all B.Broadcast.wire B.Broadcast.carrying (k - 1) (B.Broadcast.state broadcast.new) ≡ carried_all B.Broadcast.wire B.Broadcast.carrying k (B.Broadcast.state broadcast.old) }
-{
-    let _ = broadcast.carry(0);
-}
-
-// The same over any consensus.
+// The same over any consensus. One generic function is longer: a trait for what has a wire, with its laws, and an impl of it for each of the two.
+#[tactic(auto, using(crate::proofs::Emptied::one_turn))]
 pub fn carry_all_proposals<C: Consensus>(consensus: &mut C, limit: usize)
     ensures after { C.Consensus.state consensus.new ≡ carried_all C.Consensus.wire C.Consensus.carrying limit (C.Consensus.state consensus.old) }
     ensures made { C.Consensus.made (C.Consensus.state consensus.old) → C.Consensus.made (C.Consensus.state consensus.new) }
     ensures empty { C.Consensus.made (C.Consensus.state consensus.old) → C.Consensus.work (C.Consensus.state consensus.old) ≤ limit → C.Consensus.wire (C.Consensus.state consensus.new) ≡ [] }
 {
-    let mut left = limit;
-    while left > 0 && consensus.wire_len() > 0 {
-        carry_first_proposal(consensus);
-        left -= 1;
+    for _turn in 0..limit {
+        if consensus.carry(0).is_err() {
+            return;
+        }
     }
-}
-
-fn carry_first_proposal<C: Consensus>(consensus: &mut C)
-    ensures { (k : ℕ) → 0 < k → 0 < length (C.Consensus.wire (C.Consensus.state consensus.old)) → carried_all C.Consensus.wire C.Consensus.carrying (k - 1) (C.Consensus.state consensus.new) ≡ carried_all C.Consensus.wire C.Consensus.carrying k (C.Consensus.state consensus.old) }
-{
-    let _ = consensus.carry(0);
 }
 
 // The set of a running card, where the broadcast is quiet: it then holds every note that was handed to any card, crashed or not.

@@ -1,26 +1,32 @@
 use notes::set::NoteSet;
 use parts::broadcast::Broadcast;
 use parts::consensus::Consensus;
-use std::io;
+use std::{fmt, io};
 
 fn state(crashed: bool) -> &'static str {
     if crashed { "down" } else { "up" }
 }
 
-fn notes(rt: &HostRuntime, set: NoteSet) -> io::Result<()> {
-    for note in 0..32 {
-        if set.contains(note) {
-            print!(rt; " {note}")?;
+// The notes of a set as they are printed: the lowest first, each behind a space.
+#[derive(Debug, Drop)]
+struct Notes(NoteSet);
+
+impl fmt::Display for Notes {
+    fn fmt<W: fmt::Write>(&self, f: &mut fmt::Formatter<W>) -> fmt::Result {
+        let set = self.0;
+        for note in (0..32).filter(|note| set.contains(*note)) {
+            write!(f, " {note}")?;
         }
+        Ok(())
     }
-    println!(rt; "")
 }
 
 // A line for each card: its number, whether it runs, and the notes handed to it.
 pub(crate) fn handed<B: Broadcast>(rt: &HostRuntime, broadcast: &B) -> io::Result<()> {
     for card in 0..broadcast.card_count() {
-        print!(rt; "card {card} {} handed", state(broadcast.has_crashed(card)))?;
-        notes(rt, broadcast.handed_to(card))?;
+        let state = state(broadcast.has_crashed(card));
+        let notes = Notes(broadcast.handed_to(card));
+        println!(rt; "card {card} {state} handed{notes}")?;
     }
     Ok(())
 }
@@ -32,13 +38,10 @@ pub(crate) fn decisions<C: Consensus>(
     instance: usize,
 ) -> io::Result<()> {
     for card in 0..consensus.card_count() {
-        print!(rt; "card {card} {}", state(consensus.has_crashed(card)))?;
-        match consensus.decision_of(instance, card) {
-            Some(set) => {
-                print!(rt; " decided")?;
-                notes(rt, set)?;
-            }
-            None => println!(rt; " undecided")?,
+        let state = state(consensus.has_crashed(card));
+        match consensus.decision_of(instance, card).map(Notes) {
+            Some(notes) => println!(rt; "card {card} {state} decided{notes}")?,
+            None => println!(rt; "card {card} {state} undecided")?,
         }
     }
     Ok(())

@@ -1,6 +1,6 @@
 ghost use Rattle.std.specs.Prelude.{◌≡◌};
 ghost use Rattle.notes.specs.Models.{bits};
-ghost use Rattle.allack.specs.Counts.{counts_of, new_counts, counted_in, with_count, with_counted};
+ghost use Rattle.allack.specs.Counts.{counts_of, new_counts, counted_in, with_count};
 
 use super::Counts;
 use notes::set::NoteSet;

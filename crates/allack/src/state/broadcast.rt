@@ -5,6 +5,7 @@ ghost use Rattle.allack.specs.Keeps.{new_made};
 ghost use Rattle.allack.specs.Means.{new_means, post_made, post_means, carry_made, carry_means, lose_made, lose_means, crash_made, crash_means, suspect_made, suspect_means, lawful};
 
 use super::AllAck;
+use super::steps::agreement_when_quiet;
 use crate::counts::Counts;
 use notes::set::NoteSet;
 use parts::broadcast::Broadcast;
@@ -139,6 +140,8 @@ impl Broadcast for AllAck {
 
 impl Uniform for AllAck {
     fn is_quiet(&self) -> bool {
-        self.spread.is_quiet()
+        let quiet = self.spread.is_quiet();
+        agreement_when_quiet(self, quiet);
+        quiet
     }
 }
