@@ -22,6 +22,7 @@ impl Mail {
         Ok(Mail { items })
     }
 
+    #[tactic(auto, using(crate::proofs::Seen::items_seen))]
     pub(crate) fn len(&self) -> usize
         ensures items { result ≡ length (mail_of self.now) }
         ensures senders { result ≡ length (senders (mail_of self.now)) }
@@ -29,6 +30,7 @@ impl Mail {
         self.items.len()
     }
 
+    #[tactic(auto, using(crate::proofs::Seen::items_seen))]
     pub(crate) fn sender_of(&self, item: usize) -> Option<usize>
         ensures { result ≡ slice_get (senders (mail_of self.now)) item }
     {
@@ -36,6 +38,7 @@ impl Mail {
     }
 
     // Sends to every running card but the sender, where there is room.
+    #[tactic(auto, using(crate::proofs::Seen::items_seen))]
     pub(crate) fn send(&mut self, cards: &Cards, from: usize, load: Load)
         requires { (from < (cards_of cards.now).count) × (length (mail_of self.old) + (cards_of cards.now).count ≤ mail_room self.old + 1) }
         ensures items { mail_of self.new ≡ mail_of self.old ++ sent (cards_of cards.now) from (load_of load) (cards_of cards.now).count }
@@ -46,6 +49,7 @@ impl Mail {
     }
 
     // Keeps an item, where there is room.
+    #[tactic(auto, using(crate::proofs::Seen::items_seen))]
     pub(crate) fn keep(&mut self, item: Item<Load>)
         requires { length (mail_of self.old) < mail_room self.old }
         ensures items { mail_of self.new ≡ mail_of self.old ++ item_state item ∷ [] }
@@ -55,6 +59,7 @@ impl Mail {
         self.items.join(item);
     }
 
+    #[tactic(auto, using(crate::proofs::Seen::items_seen))]
     pub(crate) fn take(&mut self, item: usize) -> Option<Item<Load>>
         ensures value { option_map item_state result ≡ slice_get (mail_of self.old) item }
         ensures there { is_some result ≡ nat_lt item (length (senders (mail_of self.old))) }
@@ -66,6 +71,7 @@ impl Mail {
         self.items.take(item)
     }
 
+    #[tactic(auto, using(crate::proofs::Seen::items_seen))]
     pub(crate) fn lose(&mut self, cards: &Cards, item: usize) -> Result<(), Refusal>
         ensures answer { result ≡ lose_answer (net_of (cards_of cards.now) (senders (mail_of self.old)) 0) item }
         ensures after { mail_of self.new ≡ (if is_ok result then remove (mail_of self.old) item else mail_of self.old) }
@@ -75,6 +81,7 @@ impl Mail {
         self.items.lose(cards, item)
     }
 
+    #[tactic(auto, using(crate::proofs::Seen::items_seen))]
     pub(crate) fn let_go(&mut self, card: usize)
         ensures items { mail_of self.new ≡ without_to card (mail_of self.old) }
         ensures fewer { length (mail_of self.new) ≤ length (mail_of self.old) }
