@@ -14,6 +14,7 @@ mod laws;
 mod moves;
 
 // The items under way, and those that came before their round and are kept for it.
+// Three tables by instance and card, and not one of structs: proposals and decisions are tables that the register has too, with their laws.
 #[derive(Drop)]
 pub struct Flooding {
     cards: Cards,
