@@ -8,9 +8,9 @@ use std::io::{Read, Write};
 fn run(rt: &HostRuntime) -> anyhow::Result<()> {
     let mut file = Vec::new(rt.alloc());
     rt.stdin().read_to_end(&mut file)?;
-    let Ok(report) = report(rt.alloc(), file.as_slice()) else {
-        return Err(anyhow!("no memory for the report"));
-    };
+    let report = report(rt.alloc(), file.as_slice()).map_err(|_| anyhow!(
+        "no memory for the report"
+    ))?;
     rt.stdout().write_all(report.as_slice())?;
     Ok(())
 }

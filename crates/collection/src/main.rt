@@ -4,24 +4,24 @@
 
 mod shelf;
 
-use anyhow::anyhow;
+use anyhow::ensure;
 use shelf::{Tally, names_in, run_shelf};
 
 fn run(rt: &HostRuntime) -> anyhow::Result<()> {
-    let mut all = Tally::new();
+    let mut all = Tally::default();
     let shelves = names_in(rt, ".")?;
-    for shelf in shelves.iter() {
+    for shelf in &shelves {
         let name = shelf.as_str();
         let tally = run_shelf(rt, name)?;
         println!(rt; "{name}: {tally}")?;
         all.add(tally);
     }
     println!(rt; "in all: {all}")?;
-    if all.is_clean() {
-        Ok(())
-    } else {
-        Err(anyhow!("not every report is the one that stands in the collection"))
-    }
+    ensure!(
+        all.is_clean(),
+        "not every report is the one that stands in the collection"
+    );
+    Ok(())
 }
 
 fn main(rt: HostRuntime) -> anyhow::Result<()> {

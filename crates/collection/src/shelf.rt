@@ -3,24 +3,18 @@ use report::report;
 use std::{fmt, fs, io};
 
 // How many schedules were run, and how many of them came to another report.
-#[derive(Clone, Copy, Drop)]
+#[derive(Clone, Copy, Default, Drop)]
 pub(crate) struct Tally {
     schedules: usize,
     differ: usize,
 }
 
 impl Tally {
-    pub(crate) fn new() -> Tally {
+    // One schedule.
+    fn one(is_told: bool) -> Tally {
         Tally {
-            schedules: 0,
-            differ: 0,
-        }
-    }
-
-    fn count(&mut self, is_told: bool) {
-        self.schedules = self.schedules.saturating_add(1);
-        if !is_told {
-            self.differ = self.differ.saturating_add(1);
+            schedules: 1,
+            differ: usize::from(!is_told),
         }
     }
 
@@ -36,8 +30,7 @@ impl Tally {
 
 impl fmt::Display for Tally {
     fn fmt<W: fmt::Write>(&self, f: &mut fmt::Formatter<W>) -> fmt::Result {
-        let schedules = self.schedules;
-        let differ = self.differ;
+        let Tally { schedules, differ } = self;
         write!(f, "{schedules} schedules, {differ} differ")
     }
 }
@@ -46,8 +39,7 @@ impl fmt::Display for Tally {
 pub(crate) fn names_in(rt: &HostRuntime, folder: &str) -> io::Result<Vec<String>> {
     let mut names = Vec::new(rt.alloc());
     for entry in fs::read_dir(rt, folder)? {
-        let entry = entry?;
-        names.push(String::from_str(rt.alloc(), entry.file_name())?)?;
+        names.push(String::from_str(rt.alloc(), entry?.file_name())?)?;
     }
     names.sort()?;
     Ok(names)
@@ -59,7 +51,7 @@ fn is_told(rt: &HostRuntime, shelf: &str, name: &str) -> anyhow::Result<bool> {
     let schedule = fs::read(rt, format!(in heap; "{shelf}/{name}.schedule")?)?;
     let told = fs::read(rt, format!(in heap; "{shelf}/{name}.report")?)?;
     let came = report(heap, schedule.as_slice())?;
-    let same = came.as_slice() == told.as_slice();
+    let same = came == told;
     if !same {
         let text = String::from_utf8_lossy(heap, came.as_slice())?;
         println!(rt; "{shelf}/{name} differs: the carrier comes to")?;
@@ -69,11 +61,11 @@ fn is_told(rt: &HostRuntime, shelf: &str, name: &str) -> anyhow::Result<bool> {
 }
 
 pub(crate) fn run_shelf(rt: &HostRuntime, shelf: &str) -> anyhow::Result<Tally> {
-    let mut tally = Tally::new();
+    let mut tally = Tally::default();
     let names = names_in(rt, shelf)?;
-    for name in names.iter() {
+    for name in &names {
         if let Some(schedule) = name.as_str().strip_suffix(".schedule") {
-            tally.count(is_told(rt, shelf, schedule)?);
+            tally.add(Tally::one(is_told(rt, shelf, schedule)?));
         }
     }
     Ok(tally)

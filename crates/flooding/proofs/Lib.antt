@@ -1,4 +1,5 @@
 pub mod Rooms
+pub mod Seen
 pub mod Turns
 mod Lawful
 pub mod Holds

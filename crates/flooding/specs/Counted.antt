@@ -1,9 +1,9 @@
 -- Whether every card is accounted for, card by card.
-use Rattle.std.specs.Prelude.{◌≡◌, ℕ, zero, suc, ◌+◌, ◌<◌, true, false, ◌&&◌, refl}
+use Rattle.std.specs.Prelude.{◌≡◌, ℕ, zero, suc, ◌+◌, ◌<◌, true, ◌&&◌, refl}
 use Rattle.std.specs.List.{list_all, range_with_len}
 use Rattle.std.proofs.lemmas.Grind.{common_steps}
-use Rattle.std.proofs.Common.{sym, ap, ◌∙◌, ⊎_elim, add-one, arith}
-use Rattle.std.proofs.lemmas.Bool.{cases_lt, and_parts, and_from, and_left, and_right}
+use Rattle.std.proofs.Common.{ap, ◌∙◌, ⊎_elim, arith}
+use Rattle.std.proofs.lemmas.Bool.{cases_lt, and_parts, and_from}
 use Rattle.cards.specs.Cards.{CardState}
 use Rattle.flooding.specs.Seats.{SeatState, accounted_for, all_counted}
 
@@ -16,17 +16,6 @@ module _ (c : CardState) (q : ℕ) (s : SeatState) where
 
   pub all_in_range : (n : ℕ) → list_all (accounted_for c q s) (range_with_len 0 n) ≡ all_counted c q s n
   all_in_range n = let e : 0 + n ≡ n = omega arith in all_from n 0 ∙ ap (all_counted c q s) e
-
-  pub all_more : (m : ℕ) → all_counted c q s m ≡ true → accounted_for c q s m ≡ true → all_counted c q s (m + 1) ≡ true
-  all_more m a b = rw add-one (and_from _ _ a b)
-
-  pub all_but : (n m : ℕ) → m < n → accounted_for c q s m ≡ false → all_counted c q s n ≡ false
-  all_but zero m l e = absurd (omega arith)
-  all_but (suc n) m l e =
-      ⊎_elim
-      (λ h. and_left _ _ (all_but n m h e))
-      (λ h. let z : m ≡ n = omega arith in and_right _ _ (sym (ap (accounted_for c q s) z) ∙ e))
-      (cases_lt m n)
 
   pub each_counted : (n m : ℕ) → m < n → all_counted c q s n ≡ true → accounted_for c q s m ≡ true
   each_counted zero m l h = absurd (omega arith)

@@ -2,11 +2,11 @@
 use Rattle.std.specs.Prelude.{ℕ, Bool, cond, ◌&&◌, List, [], ◌∷◌, map, ◌==◌}
 use Rattle.notes.specs.Models.{bits}
 use Rattle.cards.specs.Cards.{CardState}
-use Rattle.wire.specs.Wires.{items_of, room_of}
+use Rattle.wire.specs.Wires.{items_of}
 use Rattle.wire.specs.declared.Item.{Item}
+use Rattle.wire.specs.declared.Wire.{Wire}
 use Rattle.flooding.specs.Seats.{SeatState, seat_in, hearing}
 use Rattle.flooding.specs.declared.mail.Load.{Load}
-use Rattle.flooding.specs.declared.mail.Mail.{Mail}
 
 -- An item says: in this instance, on entering this round, its sender knew the proposals of these cards.
 pub record LoadState : Type 0 where
@@ -24,11 +24,8 @@ telling t k q = record { instance = k; round = (seat_in t k q).round; known = (s
 abbrev pub item_state : Item Load → Item LoadState
 item_state y = record { from = y.from; to = y.to; load = load_of y.load }
 
-abbrev pub mail_of : Mail → List (Item LoadState)
-mail_of m = map item_state (items_of m.items)
-
-abbrev pub mail_room : Mail → ℕ
-mail_room m = room_of m.items
+abbrev pub mail_of : Wire Load → List (Item LoadState)
+mail_of w = map item_state (items_of w)
 
 -- Whether an item is for card q in round r of instance k.
 abbrev pub is_for : ℕ → ℕ → ℕ → Item LoadState → Bool

@@ -1,7 +1,12 @@
-use notes::set::NoteSet;
-use wire::Wire;
+ghost use Rattle.std.specs.Prelude.{◌≡◌};
+ghost use Rattle.cards.specs.Cards.{cards_of};
+ghost use Rattle.flooding.specs.Mail.{item_state, mail_of, taking_one, taking_in};
+ghost use Rattle.flooding.specs.Seats.{seat_of};
 
-pub mod methods;
+use crate::seats::{Place, Seat};
+use cards::Cards;
+use notes::set::NoteSet;
+use wire::{Item, Wire};
 
 // What an item brings: in this instance, on entering this round, its sender knew the proposals of these cards.
 #[derive(Clone, Copy, Drop)]
@@ -11,8 +16,22 @@ pub struct Load {
     pub known: NoteSet,
 }
 
-// A list of items with room for 5,760 of them: in each of 32 instances, from each of 6 cards, 6 rounds' items to 5 others.
-#[derive(Drop)]
-pub struct Mail {
-    items: Wire<Load>,
+// The card takes in what is kept for its round.
+pub(crate) fn take_in(kept: &Wire<Load>, cards: &Cards, place: Place, seat: Seat) -> Seat
+    ensures seat { seat_of result ≡ taking_in (cards_of cards.now) place.instance place.card (seat_of seat) (mail_of kept.now) }
+    ensures round { result.round ≡ seat.round }
+{
+    kept.iter().fold(seat, |taken, item| take_in_one(cards, place, taken, *item))
+}
+
+// Whether the card suspects the sender is judged now.
+fn take_in_one(cards: &Cards, place: Place, seat: Seat, item: Item<Load>) -> Seat
+    ensures { seat_of result ≡ taking_one (cards_of cards.now) place.instance place.card (seat_of seat) (item_state item) }
+{
+    let load = item.load;
+    if load.instance == place.instance && load.round == seat.round && item.to == place.card {
+        seat.hear(cards, item)
+    } else {
+        seat
+    }
 }

@@ -11,6 +11,7 @@ use cards::Cards;
 use notes::set::NoteSet;
 use wire::Item;
 
+// The methods are told the cards, and which of them sits here: a seat lies in its table and knows neither.
 impl Seat {
     // A card enters a round: it has counted only itself.
     pub(crate) fn enter(card: usize, round: usize, known: NoteSet) -> Seat
@@ -102,6 +103,7 @@ impl Seats {
         }
     }
 
+    // By index, since what `get_mut` lends of an array says nothing of the array afterwards.
     pub(crate) fn put(&mut self, place: Place, seat: Seat)
         ensures seats { seats_of self.new ≡ with_seat (seats_of self.old) place.instance place.card (seat_of seat) }
         ensures rounds { rounds_left (seats_of self.new) + rounds_after (seat_in (seats_of self.old) place.instance place.card).round ≤ rounds_left (seats_of self.old) + rounds_after seat.round }

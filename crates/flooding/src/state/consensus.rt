@@ -6,7 +6,6 @@ ghost use Rattle.flooding.specs.Means.{new_means, propose_means, carry_means, lo
 ghost use Rattle.flooding.specs.Lawful.{lawful};
 
 use super::Flooding;
-use crate::mail::Mail;
 use crate::seats::{Place, Seats};
 use cards::Cards;
 use notes::set::NoteSet;
@@ -14,9 +13,13 @@ use parts::consensus::Consensus;
 use parts::refusal::Refusal;
 use std::alloc::{AllocError, Global};
 use tables::ballots::Ballots;
+use wire::Wire;
 
 // A proposer sends in at most 6 rounds, to at most 5 others in each.
 const ITEMS_OF_A_PROPOSAL: u32 = 30;
+
+// In each of 32 instances, from each of 6 cards, the items of a proposal.
+const ROOM: usize = 5760;
 
 impl Consensus for Flooding {
     ghost State = { FloodingState };
@@ -71,8 +74,8 @@ impl Consensus for Flooding {
     } };
 
     fn new(heap: Global, count: usize) -> Result<Flooding, AllocError> {
-        let wire = Mail::new(heap)?;
-        let kept = Mail::new(heap)?;
+        let wire = Wire::new(heap, ROOM)?;
+        let kept = Wire::new(heap, ROOM)?;
         Ok(Flooding {
             cards: Cards::new(count),
             proposals: Ballots::new(),
@@ -92,16 +95,19 @@ impl Consensus for Flooding {
         Ok(())
     }
 
+    #[tactic(auto, using(crate::proofs::Seen::items_seen))]
     fn carry(&mut self, item: usize) -> Result<(), Refusal> {
         let taken = self.wire.take(item).ok_or(Refusal::NoSuchItem)?;
         self.arrive(taken);
         Ok(())
     }
 
+    #[tactic(auto, using(crate::proofs::Seen::items_seen))]
     fn lose(&mut self, item: usize) -> Result<(), Refusal> {
         self.wire.lose(&self.cards, item)
     }
 
+    #[tactic(auto, using(crate::proofs::Seen::items_seen))]
     fn crash(&mut self, card: usize) -> Result<(), Refusal> {
         self.cards.crash(card)?;
         self.wire.let_go(card);
@@ -131,10 +137,12 @@ impl Consensus for Flooding {
         self.cards.suspects(by, card)
     }
 
+    #[tactic(auto, using(crate::proofs::Seen::items_seen))]
     fn wire_len(&self) -> usize {
         self.wire.len()
     }
 
+    #[tactic(auto, using(crate::proofs::Seen::items_seen))]
     fn sender_of(&self, item: usize) -> Option<usize> {
         self.wire.sender_of(item)
     }

@@ -5,6 +5,7 @@ ghost use Rattle.parts.specs.Deciding.{Lawful, Lost, Crashed};
 ghost use Rattle.flooding.specs.Flooding.{FloodingState, seen, new_flooding, lose_on, crash_on};
 ghost use Rattle.flooding.specs.Made.{MadeFlooding};
 
+#[tactic(auto, using(crate::proofs::Lawful::lawful))]
 pub(super) fn made_is_lawful()
     ensures { (x : FloodingState) → MadeFlooding x → Lawful (seen x) }
 {}

@@ -9,7 +9,7 @@ ghost use Rattle.flooding.specs.Mail.{item_state};
 ghost use Rattle.flooding.specs.Seats.{seat_in};
 
 use super::Flooding;
-use crate::mail::Load;
+use crate::mail::{Load, take_in};
 use crate::seats::{Place, Seat};
 use histories::rounds;
 use notes::set::NoteSet;
@@ -17,6 +17,7 @@ use wire::Item;
 
 impl Flooding {
     // The card enters a round: it has counted only itself, sends what it knows, and only then takes in what was kept for the round.
+    #[tactic(auto, using(crate::proofs::Seen::items_seen))]
     pub(super) fn enter(&mut self, place: Place, round: usize, known: NoteSet)
         requires { MayEnter (flooding_of self.old) place.instance place.card round }
         ensures { flooding_of self.new ≡ enter_on (flooding_of self.old) place.instance place.card round (bits known) }
@@ -31,7 +32,7 @@ impl Flooding {
         ensures { flooding_of self.new ≡ take_in_on (flooding_of self.old) place.instance place.card }
     {
         let seat = self.seats.of(place);
-        let taken = self.kept.take_in(&self.cards, place, seat);
+        let taken = take_in(&self.kept, &self.cards, place, seat);
         self.seats.put(place, taken);
     }
 
@@ -109,6 +110,7 @@ impl Flooding {
     }
 
     // An item has come, off a wire that it leaves room on.
+    #[tactic(auto, using(crate::proofs::Seen::items_seen))]
     pub(super) fn arrive(&mut self, item: Item<Load>)
         requires { MayKeep (flooding_of self.old) }
         ensures { flooding_of self.new ≡ arrive_on (flooding_of self.old) (item_state item) }
@@ -122,7 +124,7 @@ impl Flooding {
             return;
         }
         if seat.round < item.load.round {
-            self.kept.keep(item);
+            self.kept.join(item);
         } else if seat.round == item.load.round {
             self.seats.put(place, seat.hear(&self.cards, item));
             self.settle(place);

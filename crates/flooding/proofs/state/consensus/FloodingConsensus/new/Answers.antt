@@ -1,5 +1,6 @@
-use Rattle.std.proofs.Common.{length, ap, arith}
+use Rattle.std.proofs.Common.{map, length, ap, arith}
 use Rattle.tables.specs.Tables.{free_ballots}
+use Rattle.flooding.specs.Mail.{item_state}
 use Rattle.flooding.specs.Room.{rounds_left}
 use Rattle.flooding.proofs.Rooms.{new_free, new_rounds}
 use Rattle.flooding.proofs.state.consensus.FloodingConsensus.new.Goals as goal
@@ -11,5 +12,5 @@ invariant_of-result c =
     record {
       sendable = wire.1;
       keepable = kept.1;
-      room = omega (arith, ap length wire.0, ap length kept.0, ap free_ballots c.new-4.ensures, ap rounds_left c.new-6.ensures, new_free, new_rounds);
+      room = omega (arith, ap (λ l. length (map item_state l)) wire.0, ap (λ l. length (map item_state l)) kept.0, ap free_ballots c.new-4.ensures, ap rounds_left c.new-6.ensures, new_free, new_rounds);
     }
