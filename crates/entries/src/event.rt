@@ -3,9 +3,8 @@
 ghost use Rattle.std.specs.Prelude.{◌≡◌, Some};
 ghost use Rattle.entries.specs.Written.{wire_word, event_text};
 
-use std::fmt;
-
 pub use parts::wires::Wire;
+use std::fmt;
 
 #[derive(Clone, Copy, Debug, PartialEq, Eq)]
 pub enum Event {
