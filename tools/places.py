@@ -28,10 +28,10 @@ def found(pattern, texts=code):
 
 def functions():
     """Each function: file, line, name, parameters, clauses, body."""
-    rule = re.compile(r"^( *)(?:pub(?:\([a-z]+\))? )?fn (\w+)[^(]*\((.*?)\)(?: -> ([^\n{;]*))?((?:\n[^\n]*?(?:requires|ensures)[^\n]*|\n {12,}[^\n]*)*)\s*\{(.*?)\n?\1\}", re.S | re.M)
+    rule = re.compile(r"^( *)(?:pub(?:\([a-z]+\))? )?fn (\w+)[^(]*\((.*?)\)(?: -> ([^\n{;]*))?((?:\n[^\n]*?(?:requires|ensures)[^\n]*|\n {12,}[^\n]*)*)\s*\{(?:[^\n]*\}|(\n.*?)\n\1\})$", re.S | re.M)
     for p, t in files.items():
         for m in rule.finditer(t):
-            yield p, t.count("\n", 0, m.start()) + 1, m.group(2), m.group(3), m.group(5), m.group(6)
+            yield p, t.count("\n", 0, m.start()) + 1, m.group(2), m.group(3), m.group(5), m.group(6) or ""
 
 
 def doubles():
@@ -51,7 +51,7 @@ def twins():
     groups = defaultdict(list)
     for p, line, name, params, clause, body in functions():
         plain = re.sub(r"\s+", " ", without_clauses(body))
-        if body.count("\n") < 3 or "meaning" in body:
+        if body.count("\n") < 3 or "ensures" in body:
             continue
         plain = re.sub(r"\b(?:[A-Z]\w*|\d+|broadcast|consensus|proposals?|proposer|taker|notes|events|wears|labels|take|propose)\b", "_", plain)
         groups[plain].append((p, line))

@@ -11,7 +11,7 @@ struct Card {
     suspects: [bool; 6],
 }
 
-// The cards of a part, of which the first `size` are there.
+// The cards of a part, of which the first `size` are there. The definitions read six cards, however many there are, so it is no vector of `size`.
 #[derive(Drop)]
 pub struct Cards {
     size: usize,

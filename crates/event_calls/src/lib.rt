@@ -8,7 +8,8 @@ use entries::event::Event;
 use std::alloc::{AllocError, Global};
 use total_order::call::Call;
 
-// The call that an event makes.
+// The call that an event makes. Neither type is of this crate, so it can be no `From`; and they are two types, since an event holds only what a file can
+// say, while a carrier is called with any number.
 pub fn call_of(event: Event) -> Call
     ensures { result ≡ call_of event }
 {

@@ -11,6 +11,8 @@ use parts::refusal::Refusal;
 use register::state::Register;
 use std::alloc::{AllocError, Global};
 
+// What these calls answer is not asked: each contract tells what they come to.
+
 // A note reaches the card whose item is carried, and no other.
 pub fn one_carried_item(heap: Global) -> Result<(NoteSet, NoteSet), AllocError>
     ensures { IfOk result (λ x. (bits x.0 ≡ 0) × (bits x.1 ≡ 8)) }

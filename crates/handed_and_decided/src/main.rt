@@ -16,6 +16,7 @@ use std::io;
 
 fn main(rt: HostRuntime) -> io::Result<()> {
     let mut board: Board = Board::new(rt.alloc(), 3)?;
+    // A refusal would show in what is printed.
     let _ = board.post(0, 4);
     let _ = board.post(2, 1);
     let _ = board.crash(2);

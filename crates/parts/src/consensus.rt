@@ -10,6 +10,7 @@ use notes::set::NoteSet;
 use std::alloc::{AllocError, Global};
 
 // In each instance cards propose sets of notes, and decide one of them.
+// What it shares with a broadcast, cards and wire, is no trait of its own: each definition over any consensus would take two records of ghost members.
 pub trait Consensus: Sized {
     // What a value stands for; `state` is what it stands for now. All else is told of that.
     ghost State: { Type 0 };

@@ -17,7 +17,7 @@ use runs::Script;
 use schedule::contents::{BroadcastPart, ConsensusPart, Pile};
 use std::alloc::{AllocError, Global};
 
-// The broadcast that the pile names, under the in-turn layer or alone, with this consensus.
+// The broadcast that the pile names, under the in-turn layer or alone, with this consensus. Each arm runs another type, whose law its own bound proves.
 fn report_with<K: Kind, C: Consensus + Drop>(
     heap: Global,
     pile: Pile,

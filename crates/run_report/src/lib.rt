@@ -31,7 +31,7 @@ pub fn report_over<K: Kind, B: Broadcast + Drop, C: Consensus + Drop>(
     report_of(heap, &end.carrier, end.answers.as_slice())
 }
 
-// The same over a uniform broadcast, by the run that promises more of it.
+// The same over a uniform broadcast, by the run that promises more of it, and which another broadcast does not have.
 pub fn report_over_uniform<K: Kind, B: Uniform + Drop, C: Consensus + Drop>(
     heap: Global,
     script: &Script<'_, K>,

@@ -29,6 +29,7 @@ impl Counts {
     pub fn count(&mut self, card: usize, relayer: usize, note: usize)
         ensures { counts_of self.new ≡ with_count (counts_of self.old) card relayer note }
     {
+        // By index: what an array's `get_mut` writes, a proof does not know.
         if card < 6 {
             self.rows[card].add(relayer, note);
         }

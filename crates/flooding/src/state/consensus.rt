@@ -107,6 +107,7 @@ impl Consensus for Flooding {
         self.wire.lose(&self.cards, item)
     }
 
+    // A part's own cards and own wire, so each part says it: a function for both would take as many words to call.
     #[tactic(auto, using(crate::proofs::Seen::items_seen))]
     fn crash(&mut self, card: usize) -> Result<(), Refusal> {
         self.cards.crash(card)?;

@@ -60,6 +60,7 @@ impl Spread {
         self.wire.lose(&self.cards, item)
     }
 
+    // A part's own cards and own wire, so each part says it: a function for both would take as many words to call.
     pub fn crash(&mut self, card: usize) -> Result<(), Refusal>
         ensures answer { result ≡ crash_answer (net_of (spread_of self.old).cards (senders (spread_of self.old).wire) 0) card }
         ensures after { spread_of self.new ≡ (if is_ok result then crash_on (spread_of self.old) card else spread_of self.old) }
