@@ -25,6 +25,7 @@ pub enum Event {
     Settle { limit: u32 },
 }
 
+// A wire's letter is the file format's, so it is said here and no `Display` of the wire.
 fn word(wire: Wire) -> &'static str
     ensures { result.now ≡ wire_word wire }
 {

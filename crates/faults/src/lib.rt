@@ -83,6 +83,7 @@ impl FileFault {
 }
 
 impl Layer {
+    // The word of the output; a caller may want it alone, so it is no `Display`.
     pub fn name(self) -> &'static str
         ensures { result.now ≡ layer_word self }
     {

@@ -3,6 +3,7 @@ use parts::broadcast::Broadcast;
 use parts::consensus::Consensus;
 use std::{fmt, io};
 
+// The word of a yes or no, which has no `Display` of its own to write.
 fn state(crashed: bool) -> &'static str {
     if crashed { "down" } else { "up" }
 }

@@ -36,6 +36,7 @@ fn report_text(heap: Global, file: &[u8]) -> Result<String, AllocError>
     match read(heap, file) {
         Ok(schedule) => report_schedule(heap, schedule),
         Err(Unread::Fault(fault)) => report_fault(heap, fault),
+        // What was not read for want of memory holds no error of the heap to hand on.
         Err(Unread::NoMemory) => Err(AllocError),
     }
 }

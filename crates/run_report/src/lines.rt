@@ -45,6 +45,7 @@ pub(crate) fn write_log(
     Ok(())
 }
 
+// The word of a yes or no, which has no `Display` of its own to write.
 fn card_word(crashed: bool) -> &'static str
     ensures { result.now ≡ card_word crashed }
 {
@@ -71,6 +72,7 @@ pub(crate) fn write_steps(out: &mut String, steps: usize, at_rest: bool) -> Resu
     Ok(())
 }
 
+// Likewise a word of a yes or no.
 fn rest_word(at_rest: bool) -> &'static str
     ensures { result.now ≡ rest_word at_rest }
 {
