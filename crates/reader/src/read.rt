@@ -61,7 +61,7 @@ fn read_whole<'a>(heap: Global, file: &'a [u8]) -> Result<Schedule<'a>, Unread>
 }
 
 // What to say where memory is wanting: the first fault all the same, if the file has one.
-// It stands apart: with `check(file)?` in `read` the proof did not come from a fault of the contents to one of the file.
+// It stands apart: with `check(file)?` in `read` a proof does not come from a fault of the contents to one of the file.
 fn without_memory(file: &[u8]) -> Unread
     ensures { Refuses result (schedule_of file.now) }
 {

@@ -23,8 +23,7 @@ impl<B: Broadcast, C: Consensus> Carrier<B, C> {
         ensures count { result ≡ card_count B.Broadcast C.Consensus (model B.Broadcast C.Consensus self.now) }
         ensures few { result ≤ 6 }
     {
-        let cards = self.broadcast.card_count();
-        if cards < 6 { cards } else { 6 }
+        self.broadcast.card_count().min(6)
     }
 
     // Whether a card has crashed.
@@ -38,10 +37,9 @@ impl<B: Broadcast, C: Consensus> Carrier<B, C> {
     pub fn log(&self, card: usize) -> &[usize]
         ensures { result.now ≡ log_at B.Broadcast C.Consensus (model B.Broadcast C.Consensus self.now) card }
     {
-        match self.cards.get(card) {
-            Some(progress) => progress.log.as_slice(),
-            None => &[],
-        }
+        self.cards
+            .get(card)
+            .map_or(&[], |progress| progress.log.as_slice())
     }
 
     // The instance that a card has come to.
@@ -94,10 +92,9 @@ impl<B: Broadcast, C: Consensus> Carrier<B, C> {
     fn notes_of(&self, card: usize) -> NoteSet
         ensures { bits result ≡ with_all 0 (log_at B.Broadcast C.Consensus (model B.Broadcast C.Consensus self.now) card) }
     {
-        match self.cards.get(card) {
-            Some(progress) => progress.log.notes(),
-            None => NoteSet::empty(),
-        }
+        self.cards
+            .get(card)
+            .map_or(NoteSet::empty(), |progress| progress.log.notes())
     }
 
     // Why propose would be refused, if it would.

@@ -156,5 +156,5 @@ impl Progress {
 fn one_more(n: usize) -> usize
     ensures { result ≡ one_more n }
 {
-    if n < usize::MAX { n + 1 } else { n }
+    n.saturating_add(1)
 }
