@@ -1,6 +1,6 @@
 -- Tables as lists: what is read after a write, and in a new table.
 use Rattle.std.proofs.Common.{◌≡◌, ℕ, zero, suc, ◌<◌, ◌≤◌, cond, ◌&&◌, eqb, ◌⊎◌, List, [], ◌∷◌, map, length, get_or, set, replicate, sym, refl, ap, ◌∙◌, subst, ⊎_elim, arith, length-set, get_or-set_other, get_or-set_same}
-use Rattle.std.proofs.lemmas.List.{map-set, set_past, set-get_or, get_or_past}
+use Rattle.std.proofs.lemmas.List.{map-set, set_past, set-get_or}
 use Rattle.std.proofs.lemmas.Bool.{cases_eq, eqb-true, eq-eqb, ne_eqb, cond-true, cond-false, cond_both}
 
 -- A write changes its own place only.
@@ -33,10 +33,6 @@ get_d_map_at f [] i d = refl
 get_d_map_at f (x ∷ xs) zero d = refl
 get_d_map_at f (x ∷ xs) (suc i) d = get_d_map_at f xs i d
 
--- A table of rows, read and written through a function.
-pub read_rows : {X Y : Type 0} (f : X → Y) (rows : List (List X)) (k p : ℕ) (d : X) → get_or (get_or (map (map f) rows) k []) p (f d) ≡ f (get_or (get_or rows k []) p d)
-read_rows f rows k p d = ap (λ r. get_or r p (f d)) (get_d_map_at (map f) rows k []) ∙ get_d_map_at f (get_or rows k []) p d
-
 pub write_rows : {X Y : Type 0} (f : X → Y) (rows : List (List X)) (k p : ℕ) (a : X)
     → map (map f) (set rows k (set (get_or rows k []) p a)) ≡ set (map (map f) rows) k (set (get_or (map (map f) rows) k []) p (f a))
 write_rows f rows k p a =
@@ -49,12 +45,6 @@ write_past rows n k p a =
     ⊎_elim
     (λ h. ap (set rows k) (set_past (get_or rows k []) p a h.1) ∙ set-get_or rows k [])
     (λ h. set_past rows k (set (get_or rows k []) p a) h)
-
-pub read_past : {X : Type 0} (rows : List (List X)) (n k p : ℕ) (d : X) → ((k < n) × (length (get_or rows k []) ≤ p)) ⊎ (length rows ≤ k) → get_or (get_or rows k []) p d ≡ d
-read_past rows n k p d =
-    ⊎_elim
-    (λ h. get_or_past (get_or rows k []) p d h.1)
-    (λ h. ap (λ r. get_or r p d) (get_or_past rows k [] h))
 
 -- A write into a row changes its own place only, and no length.
 pub row_written : {X : Type 0} (rows : List (List X)) (q p a b : ℕ) (v d : X) → q < length rows → p < length (get_or rows q [])

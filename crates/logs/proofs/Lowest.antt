@@ -1,11 +1,7 @@
 -- The lowest number that passes a test.
-use Rattle.std.proofs.Common.{◌≡◌, ℕ, zero, suc, ◌+◌, ◌<◌, ◌≤◌, Bool, true, false, cond, ◌⊎◌, Some, None, Option, sym, refl, ap, ◌∙◌, inl, inr, add-one, arith}
+use Rattle.std.proofs.Common.{◌≡◌, ℕ, zero, suc, ◌<◌, ◌≤◌, Bool, true, false, cond, ◌⊎◌, Some, None, Option, sym, refl, ap, ◌∙◌, inl, inr, arith}
 use Rattle.std.proofs.lemmas.Bool.{cases_Bool, cases_eq, cond-true, cond-false}
 use Rattle.logs.specs.Orders.{or_else, lowest_that}
-
--- None below n passes; and one more does not.
-pub lowest_none_more : (f : ℕ → Bool) (n : ℕ) → lowest_that f n ≡ None → f n ≡ false → lowest_that f (n + 1) ≡ None
-lowest_none_more f n e h = ap (lowest_that f) (add-one n) ∙ ap (λ o. or_else o (cond (f n) (Some n) None)) e ∙ cond-false (f n) (Some n) None h
 
 -- None below m passes, and m does.
 pub lowest_found : (f : ℕ → Bool) (n m : ℕ) → m < n → lowest_that f m ≡ None → f m ≡ true → lowest_that f n ≡ Some m

@@ -18,7 +18,7 @@ impl AllAck {
     }
 
     // The notes of which the card has counted every card that it does not suspect.
-    // As a `fold`, tried, the proof stays open: of the set that its closure returns only the number is known.
+    // No `fold`: of the set that its closure returns a proof knows only the number.
     #[tactic(auto, using(crate::specs::Completes::complete_next))]
     fn complete(&self, card: usize) -> NoteSet
         ensures { bits result ≡ complete (all_ack_of self.now) card (all_ack_of self.now).spread.cards.count }
