@@ -20,14 +20,11 @@ impl<'a> Label<'a> {
     pub fn new(bytes: &'a [u8], place: usize) -> Option<Label<'a>>
         ensures { option_map label_of result ≡ (if is_label bytes.now then Some (bytes.now, place) else None) }
     {
-        if (1..=8).contains(&bytes.len()) && all_printable(bytes) {
-            Some(Label {
-                text: bytes,
-                at: place,
-            })
-        } else {
-            None
-        }
+        let fits = (1..=8).contains(&bytes.len()) && all_printable(bytes);
+        fits.then_some(Label {
+            text: bytes,
+            at: place,
+        })
     }
 
     pub fn bytes(&self) -> &'a [u8]

@@ -1,6 +1,5 @@
 ghost use Rattle.std.specs.Prelude.{◌≡◌, ℕ, Bool, List, length, is_ok, IfOk, if◌then◌else◌, Option};
 ghost use Rattle.std.specs.List.{slice_get};
-ghost use Rattle.notes.specs.Models.{bits};
 ghost use Rattle.parts.specs.Refusals.{post_answer, carry_answer, lose_answer, crash_answer, suspect_answer};
 ghost use Rattle.parts.specs.Broadcasting.{broadcast_view, Meaning};
 
@@ -97,7 +96,7 @@ pub trait Broadcast: Sized {
         ensures { result ≡ poster (state self.now) note };
 
     fn handed_to(&self, card: usize) -> NoteSet
-        ensures { bits result ≡ handed (state self.now) card };
+        ensures { result ≡ handed (state self.now) card };
 
     ghost meaning: { Meaning (broadcast_view cards crashed suspects wire work poster handed) made bound start posting carrying losing crashing suspecting };
 }

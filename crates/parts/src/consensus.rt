@@ -1,7 +1,6 @@
 ghost use Rattle.std.specs.Prelude.{◌≡◌, ℕ, Bool, List, length, is_ok, IfOk, if◌then◌else◌, Option};
 ghost use Rattle.std.specs.Option.{option_map};
 ghost use Rattle.std.specs.List.{slice_get};
-ghost use Rattle.notes.specs.Models.{bits};
 ghost use Rattle.parts.specs.Refusals.{propose_answer, carry_answer, lose_answer, crash_answer, suspect_answer};
 ghost use Rattle.parts.specs.Deciding.{consensus_view, Meaning};
 
@@ -58,8 +57,8 @@ pub trait Consensus: Sized {
         ensures { IfOk result (λ x. state x ≡ start count) };
 
     fn propose(&mut self, instance: usize, card: usize, notes: NoteSet) -> Result<(), Refusal>
-        ensures answer { result ≡ propose_answer (consensus_view cards crashed suspects wire work proposal decision (state self.old)) instance card (bits notes) }
-        ensures after { state self.new ≡ (if is_ok result then proposing (state self.old) instance card (bits notes) else state self.old) };
+        ensures answer { result ≡ propose_answer (consensus_view cards crashed suspects wire work proposal decision (state self.old)) instance card notes }
+        ensures after { state self.new ≡ (if is_ok result then proposing (state self.old) instance card notes else state self.old) };
 
     fn carry(&mut self, item: usize) -> Result<(), Refusal>
         ensures answer { result ≡ carry_answer (consensus_view cards crashed suspects wire work proposal decision (state self.old)).net item }
@@ -96,10 +95,10 @@ pub trait Consensus: Sized {
         ensures { result ≡ slice_get (wire (state self.now)) item };
 
     fn proposal_of(&self, instance: usize, card: usize) -> Option<NoteSet>
-        ensures { option_map bits result ≡ proposal (state self.now) instance card };
+        ensures { result ≡ proposal (state self.now) instance card };
 
     fn decision_of(&self, instance: usize, card: usize) -> Option<NoteSet>
-        ensures { option_map bits result ≡ decision (state self.now) instance card };
+        ensures { result ≡ decision (state self.now) instance card };
 
     ghost meaning: { Meaning (consensus_view cards crashed suspects wire work proposal decision) made bound start proposing carrying losing crashing suspecting };
 }
