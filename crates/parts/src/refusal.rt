@@ -5,24 +5,24 @@ ghost use Rattle.parts.specs.Refusals.{number as number_of};
 #[derive(Clone, Copy, PartialEq, Eq, Debug)]
 pub enum Refusal {
     // A named card is not below the number of cards.
-    NoSuchCard,
+    NoSuchCard = 1,
     // The card that posts, proposes, takes, suspects or is to crash has crashed.
-    CardCrashed,
+    CardCrashed = 2,
     // The note is above 31, or none of the book.
-    NoSuchNote,
-    AlreadyPosted,
+    NoSuchNote = 3,
+    AlreadyPosted = 4,
     // The card to be suspected runs.
-    CardRuns,
+    CardRuns = 5,
     // The item is not below the wire's length.
-    NoSuchItem,
+    NoSuchItem = 6,
     // The item to be lost has a sender that is not a crashed card.
-    SenderNotCrashed,
+    SenderNotCrashed = 7,
     // The card has proposed in that instance.
-    AlreadyProposed,
+    AlreadyProposed = 8,
     // The set to be proposed is empty, or the instance is above 31.
-    NothingToPropose,
+    NothingToPropose = 9,
     // The card that takes has no decision.
-    NothingDecided,
+    NothingDecided = 10,
 }
 
 impl Refusal {
@@ -30,17 +30,6 @@ impl Refusal {
     pub fn number(self) -> u32
         ensures { result ≡ number_of self }
     {
-        match self {
-            Refusal::NoSuchCard => 1,
-            Refusal::CardCrashed => 2,
-            Refusal::NoSuchNote => 3,
-            Refusal::AlreadyPosted => 4,
-            Refusal::CardRuns => 5,
-            Refusal::NoSuchItem => 6,
-            Refusal::SenderNotCrashed => 7,
-            Refusal::AlreadyProposed => 8,
-            Refusal::NothingToPropose => 9,
-            Refusal::NothingDecided => 10,
-        }
+        self as u32
     }
 }
