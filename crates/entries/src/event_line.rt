@@ -19,6 +19,7 @@ fn number(field: Field) -> Option<u32>
     field.number(MOST)
 }
 
+// The letter is the file format's and the wire is another crate's, so there can be no `TryFrom` of a letter here.
 fn wire(field: Field) -> Option<Wire>
     ensures { result ≡ bind (letter_in (field_of field.entry)) wire_of }
 {
@@ -33,19 +34,12 @@ fn wire(field: Field) -> Option<Wire>
 fn of_one(letter: char, field: Field) -> Option<Event>
     ensures { result ≡ event_by letter (field_of field.entry ∷ []) }
 {
+    let number = number(field)?;
     match letter {
-        'p' => Some(Event::Propose {
-            card: number(field)?,
-        }),
-        't' => Some(Event::Take {
-            card: number(field)?,
-        }),
-        'x' => Some(Event::Crash {
-            card: number(field)?,
-        }),
-        'r' => Some(Event::Settle {
-            limit: number(field)?,
-        }),
+        'p' => Some(Event::Propose { card: number }),
+        't' => Some(Event::Take { card: number }),
+        'x' => Some(Event::Crash { card: number }),
+        'r' => Some(Event::Settle { limit: number }),
         _ => None,
     }
 }

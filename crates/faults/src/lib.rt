@@ -46,7 +46,7 @@ pub enum Layer {
 pub const LONGEST: usize = 65536;
 
 impl FileFault {
-    // The number of the fault.
+    // The number of the fault. A variant that holds something cannot be cast to the number that is written at it, so a match says them.
     pub fn cause(self) -> u32
         ensures { result ≡ cause_of self }
     {

@@ -30,7 +30,7 @@ pub enum Fields<'a> {
 }
 
 impl<'a> Part<'a> {
-    // The part as one field: a number, or else a word.
+    // The part as one field: a number, or else a word. The check does not follow `map` here, whose result names a lifetime that a number does not.
     pub fn field(self) -> Field<'a>
         ensures { field_of result ≡ read_field (part_of self.entry) }
     {
