@@ -1,4 +1,4 @@
-ghost use Rattle.std.specs.Prelude.{◌≡◌, ◌≤◌, [], is_ok, if◌then◌else◌, Decides, Ok};
+ghost use Rattle.std.specs.Prelude.{◌≡◌, ◌<◌, ◌≤◌, true, [], is_ok, if◌then◌else◌, Decides, Ok};
 ghost use Rattle.parts.specs.Refusals.{acting_answer, crash_answer, suspect_answer};
 ghost use Rattle.cards.specs.Cards.{crashed_in, suspects_in, new_cards, with_crash, with_suspicion, net_of, knows, knows_all, AllSuspected};
 
@@ -34,7 +34,8 @@ impl Cards {
 
     // Whether the card may act: it is one of the cards, and runs.
     pub fn acting(&self, card: usize) -> Result<(), Refusal>
-        ensures { result ≡ acting_answer (net_of self.now [] 0) card (Ok tt) }
+        ensures answer { result ≡ acting_answer (net_of self.now [] 0) card (Ok tt) }
+        ensures few { is_ok result ≡ true → card < 6 }
     {
         if card >= self.count() {
             return Err(Refusal::NoSuchCard);
