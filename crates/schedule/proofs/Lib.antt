@@ -1,2 +1,3 @@
 pub mod ContentsLaws
 pub mod ContentsWhole
+pub mod WordLaws

@@ -16,16 +16,16 @@ use text::fault::LineFault;
 use text::field::{Field, Fields};
 use text::part::Part;
 
-// A word among two or three: a table of words and values would hold no less, and need a search besides.
 fn kind(word: Field) -> Option<NoteKind>
     ensures { result ≡ kind_in (field_of word.entry) }
 {
-    if word.is_word(b"wear") {
-        Some(NoteKind::Wear)
-    } else if word.is_word(b"label") {
-        Some(NoteKind::Label)
-    } else {
-        None
+    let Field::Word(word) = word else {
+        return None;
+    };
+    match word.bytes() {
+        b"wear" => Some(NoteKind::Wear),
+        b"label" => Some(NoteKind::Label),
+        _ => None,
     }
 }
 
@@ -44,29 +44,32 @@ impl<'a> OneLine<'a> for NoteKind {
     }
 }
 
+#[tactic(auto, using(crate::proofs::WordLaws::six_bytes))]
 fn broadcast(word: Field) -> Option<BroadcastPart>
     ensures { result ≡ broadcast_in (field_of word.entry) }
 {
-    if word.is_word(b"relay") {
-        Some(BroadcastPart::Relay)
-    } else if word.is_word(b"allack") {
-        Some(BroadcastPart::AllAck)
-    } else if word.is_word(b"board") {
-        Some(BroadcastPart::Board)
-    } else {
-        None
+    let Field::Word(word) = word else {
+        return None;
+    };
+    match word.bytes() {
+        b"relay" => Some(BroadcastPart::Relay),
+        b"allack" => Some(BroadcastPart::AllAck),
+        b"board" => Some(BroadcastPart::Board),
+        _ => None,
     }
 }
 
+#[tactic(auto, using(crate::proofs::WordLaws::eight_bytes))]
 fn consensus(word: Field) -> Option<ConsensusPart>
     ensures { result ≡ consensus_in (field_of word.entry) }
 {
-    if word.is_word(b"flood") {
-        Some(ConsensusPart::Flood)
-    } else if word.is_word(b"register") {
-        Some(ConsensusPart::Register)
-    } else {
-        None
+    let Field::Word(word) = word else {
+        return None;
+    };
+    match word.bytes() {
+        b"flood" => Some(ConsensusPart::Flood),
+        b"register" => Some(ConsensusPart::Register),
+        _ => None,
     }
 }
 
@@ -115,7 +118,7 @@ fn count(line: Part, key: &[u8], range: RangeInclusive<u32>) -> Option<u32>
     }
 }
 
-// As `first_line`, which takes no rule as a closure, since no public call requires anything.
+// As `first_line`, which takes no rule as a closure, since no public call requires anything; a type for each count would take three impls in place of this.
 fn count_line<'a>(
     rest: Part<'a>,
     key: &[u8],
