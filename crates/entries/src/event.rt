@@ -35,7 +35,7 @@ fn word(wire: Wire) -> &'static str
     }
 }
 
-// The line of the event, without its end.
+// The line of the event, without its end. Each event has a line of another form.
 impl fmt::Display for Event {
     ghost output = { λ e. Some (event_text e) };
 

@@ -30,7 +30,7 @@ fn wire(field: Field) -> Option<Wire>
     }
 }
 
-// The event that a letter and one field say.
+// The event that a letter and one field say. Each letter makes another event.
 fn of_one(letter: char, field: Field) -> Option<Event>
     ensures { result ≡ event_by letter (field_of field.entry ∷ []) }
 {
@@ -44,7 +44,7 @@ fn of_one(letter: char, field: Field) -> Option<Event>
     }
 }
 
-// The event that a letter and two fields say.
+// The event that a letter and two fields say. Each letter makes another event.
 fn of_two(letter: char, first: Field, second: Field) -> Option<Event>
     ensures { result ≡ event_by letter (field_of first.entry ∷ field_of second.entry ∷ []) }
 {

@@ -58,18 +58,12 @@ fn draw_event(random: &mut Random, cards: u32, notes: u32) -> Event {
     }
 }
 
-fn push_suspicions(events: &mut Vec<Event>, by: u32, cards: u32) -> Result<(), AllocError> {
-    for card in 0..cards {
-        events.push(Event::Suspect { by, card })?;
-    }
-    Ok(())
-}
-
 // Every card suspects every other, as far as it may, and the carrier works on to rest.
 fn push_settling(events: &mut Vec<Event>, cards: u32) -> Result<(), AllocError> {
-    for by in 0..cards {
-        push_suspicions(events, by, cards)?;
-    }
+    events.extend((0..cards).flat_map(|by| (0..cards).map(move |card| Event::Suspect {
+        by,
+        card,
+    })))?;
     events.push(Event::Settle { limit: 60000 })?;
     Ok(())
 }
@@ -80,17 +74,17 @@ fn draw_events(
     cards: u32,
     notes: u32,
 ) -> Result<Vec<Event>, AllocError> {
-    let mut events = Vec::new(heap);
-    for _ in 0..random.one_of(&[0, 3, 8, 20, 40, 80]) {
-        events.push(draw_event(random, cards, notes))?;
-    }
+    let count = random.one_of(&[0, 3, 8, 20, 40, 80]);
+    let mut events: Vec<Event> = (0..count)
+        .map(|_| draw_event(random, cards, notes))
+        .collect(heap)?;
     if random.below(10) < 6 {
         push_settling(&mut events, cards)?;
     }
     Ok(events)
 }
 
-// Few blocks and counts, so that many notes are equal.
+// Few blocks and counts, so that many notes are equal. A `for`, as each turn asks for memory.
 fn push_notes(
     heap: Global,
     file: &mut String,

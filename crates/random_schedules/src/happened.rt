@@ -6,6 +6,7 @@ use entries::event::Event;
 pub(crate) struct Happened {
     // The poster of each note.
     posters: [Option<u32>; 32],
+    // Which card suspects which: another table, since it goes by cards and not by notes.
     suspicions: [[bool; 6]; 6],
     pub(crate) posts: u32,
 }
@@ -25,6 +26,7 @@ impl Happened {
         happened
     }
 
+    // The two kinds of event that the law asks after; each is noted in a table of its own.
     fn note(&mut self, event: Event) {
         match event {
             Event::Post { card, note } => self.note_post(card, note),
@@ -41,10 +43,12 @@ impl Happened {
     }
 
     fn note_suspicion(&mut self, by: usize, card: usize) {
-        if let Some(row) = self.suspicions.get_mut(by) {
-            if let Some(suspects) = row.get_mut(card) {
-                *suspects = true;
-            }
+        if let Some(suspects) = self
+            .suspicions
+            .get_mut(by)
+            .and_then(|row| row.get_mut(card))
+        {
+            *suspects = true;
         }
     }
 

@@ -32,7 +32,7 @@ fn verdict_on(rt: &HostRuntime, drawn: &Drawn, pile: Pile) -> anyhow::Result<Ver
     Ok(verdict)
 }
 
-// Draws and judges the schedules of one pile.
+// Draws and judges the schedules of one pile. A `for`, as each turn may fail.
 fn try_pile(rt: &HostRuntime, random: &mut Random, pile: Pile) -> anyhow::Result<()> {
     let mut settled = 0u32;
     let mut amiss = 0u32;

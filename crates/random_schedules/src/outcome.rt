@@ -61,6 +61,7 @@ impl Outcome {
         Ok(())
     }
 
+    // The first word says what the rest of the line is. A table of functions by word would need a search, and no less text.
     fn note_line(&mut self, heap: Global, line: &str) -> anyhow::Result<()> {
         match line.split_once(' ') {
             Some(("no", fields)) => self.note_refusal(fields),

@@ -15,12 +15,11 @@ impl Random {
             .state
             .wrapping_mul(6364136223846793005)
             .wrapping_add(1442695040888963407);
-        if limit == 0 {
-            return 0;
-        }
         // The high bits of such a generator are the better ones.
-        let high = self.state >> 33;
-        u32::try_from(high % u64::from(limit)).unwrap_or(0)
+        (self.state >> 33)
+            .checked_rem(u64::from(limit))
+            .and_then(|number| u32::try_from(number).ok())
+            .unwrap_or(0)
     }
 
     // One of some numbers.

@@ -1,13 +1,15 @@
 -- What the answers of the parts say of the whole.
-use Rattle.std.proofs.Common.{◌≡◌, true, is_ok, Ok, Err, Result, refl, arith}
-use Rattle.schedule.specs.declared.contents.Contents.{Contents}
+use Rattle.std.proofs.Common.{◌≡◌, Some, None, Ok, Err, Option, Result, sym, refl, subst, arith}
+use Rattle.std.specs.Option.{MatchOption}
+use Rattle.std.specs.Result.{result_err}
 use Rattle.faults.specs.declared.FileFault.{FileFault}
-use Rattle.reader.specs.Files.{Whole, contents_in}
+use Rattle.reader.specs.declared.file.Unread.{Unread}
+use Rattle.reader.specs.declared.file.Unread.TheVariants.{Fault, NoMemory}
+use Rattle.reader.specs.Files.{Whole, contents_in, Refuses}
 
-pub contents_ok : (s : Result Whole FileFault) (c : Contents) → Ok c ≡ contents_in s → is_ok s ≡ true
-contents_ok (Ok w) c e = refl
-contents_ok (Err f) c e = absurd (grind arith)
-
-pub contents_err : (s : Result Whole FileFault) (f : FileFault) → Err f ≡ contents_in s → s ≡ Err f
-contents_err (Ok w) f e = absurd (grind arith)
-contents_err (Err g) f e = cc
+-- the fault of a check, if there is one, and else want of memory
+pub refuses : (s : Result Whole FileFault) (o : Option FileFault) (u : Unread) → o ≡ result_err (contents_in s) → MatchOption o (u ≡ NoMemory) (λ f. u ≡ Fault f) → Refuses u s
+refuses (Ok w) None u e h = subst (λ v. Refuses v (Ok w)) (sym h) refl
+refuses (Ok w) (Some f) u e h = absurd (grind arith)
+refuses (Err f) None u e h = absurd (grind arith)
+refuses (Err f) (Some g) u e h = let same : Err f ≡ Err g = cc in subst (λ v. Refuses v (Err f)) (sym h) same

@@ -15,6 +15,7 @@ use schedule::contents::NoteKind;
 use std::alloc::Global;
 use text::part::Part;
 
+// Each arm reads lines of another type, and wraps them in another variant.
 fn read_notes<'a>(
     heap: Global,
     kind: NoteKind,
@@ -62,13 +63,11 @@ fn read_whole<'a>(heap: Global, file: &'a [u8]) -> Result<Schedule<'a>, Unread>
 
 // What to say where memory is wanting: the first fault all the same, if the file has one.
 // It stands apart: with `check(file)?` in `read` a proof does not come from a fault of the contents to one of the file.
+#[tactic(auto, using(crate::proofs::FileLaws::refuses))]
 fn without_memory(file: &[u8]) -> Unread
     ensures { Refuses result (schedule_of file.now) }
 {
-    match check(file) {
-        Ok(_) => Unread::NoMemory,
-        Err(fault) => Unread::Fault(fault),
-    }
+    check(file).err().map_or(Unread::NoMemory, Unread::Fault)
 }
 
 // The schedule that the file says, or its first fault; want of memory hides no fault.

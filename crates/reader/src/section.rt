@@ -17,7 +17,9 @@ use std::alloc::{AllocError, Global};
 use text::fault::LineFault;
 use text::part::Part;
 
-// What follows so many lines, if each says what it should. It keeps nothing of what they say.
+// What follows so many lines, if each says what it should. It keeps nothing of what they say: one function for this and `read_into` would take
+// a trait of what keeps a line, with room for more among its laws and an impl that keeps nothing, which is longer than both loops.
+// The part and the number of lines stay two arguments, as in all that read lines: the one comes from the line before, the other from the contents.
 fn check_lines<'a, T: OneLine<'a> + Drop>(rest: Part<'a>, count: u32) -> Result<Part<'a>, LineFault>
     ensures { end_seen result ≡ end_of (lines_of T.rule count (part_of rest.entry)) }
 {
@@ -60,7 +62,7 @@ pub(crate) fn read_lines<'a, T: OneLine<'a> + Drop>(
     Ok(read_into(room, rest, count))
 }
 
-// What follows so many lines of notes, or the first line that says none.
+// What follows so many lines of notes, or the first line that says none. Each arm reads lines of another type.
 #[tactic(auto, using(crate::proofs::FileTexts::notes_say))]
 pub fn check_notes<'a>(kind: NoteKind, rest: Part<'a>, count: u32) -> Result<Part<'a>, LineFault>
     ensures value { end_seen result ≡ end_of (notes_of kind count (part_of rest.entry)) }

@@ -67,7 +67,7 @@ fn report_table(rt: &HostRuntime) -> io::Result<()> {
     Ok(())
 }
 
-// A good file that ends too early, at every byte.
+// A good file that ends too early, at every byte. A `for`, as each turn may fail.
 fn report_cuts(rt: &HostRuntime) -> io::Result<()> {
     for n in 0..BASE.len() {
         let name = format!(in rt.alloc(); "cut at {n}")?;
@@ -76,7 +76,7 @@ fn report_cuts(rt: &HostRuntime) -> io::Result<()> {
     Ok(())
 }
 
-// A good file with one byte made 255, at every place.
+// A good file with one byte made 255, at every place. A `for`, as each turn may fail.
 fn report_spoiled(rt: &HostRuntime) -> io::Result<()> {
     for n in 0..BASE.len() {
         let name = format!(in rt.alloc(); "byte {n} spoiled")?;

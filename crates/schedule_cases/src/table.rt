@@ -3,7 +3,7 @@ ghost use Rattle.std.specs.Prelude.{◌<◌, length, IfSome};
 
 use std::alloc::{AllocError, Global};
 
-// The byte that two hexadecimal digits write; 0 where they are none.
+// The byte that two hexadecimal digits write, and 0 for others.
 fn byte_of(digits: &[u8]) -> u8 {
     std::str::from_utf8(digits)
         .ok()
