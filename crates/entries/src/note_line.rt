@@ -7,7 +7,7 @@ ghost use Rattle.entries.specs.Notes.{wear_of, label_at};
 use crate::line::OneLine;
 use labels::Label;
 use notes::wear::Wear;
-use text::field::{Field, Fields};
+use text::field::Fields;
 use text::part::Part;
 
 // A block and its erase count.
@@ -38,9 +38,6 @@ impl<'a> OneLine<'a> for Label<'a> {
     ghost rule = { label_at };
 
     fn from_line(line: Part<'a>) -> Option<Label<'a>> {
-        match line.label()? {
-            Field::Label(label) => Some(label),
-            Field::Number(_) | Field::Word(_) => None,
-        }
+        line.label()
     }
 }

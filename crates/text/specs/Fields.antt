@@ -3,9 +3,8 @@ use Rattle.std.specs.Prelude.{ℕ, zero, suc, Bool, false, cond, List, [], ◌�
 use Rattle.std.specs.Option.{option_map}
 use Rattle.std.specs.Str.{bytes_eq}
 use Rattle.labels.specs.Order.{is_label}
-use Rattle.labels.specs.Order.{label_of}
 use Rattle.text.specs.declared.field.Field.{Field}
-use Rattle.text.specs.declared.field.Field.TheVariants.{Number, Word, Label}
+use Rattle.text.specs.declared.field.Field.TheVariants.{Number, Word}
 use Rattle.text.specs.declared.field.Fields.{Fields}
 use Rattle.text.specs.declared.field.Fields.TheVariants.{One, Two, Three, Four, More}
 use Rattle.text.specs.Numbers.{numeral}
@@ -20,7 +19,6 @@ pub data Cut : Type 0 where
 abbrev pub field_of : Field → Cut
 field_of (Number n) = number n
 field_of (Word w) = word (part_of w).0 (place_of (part_of w))
-field_of (Label l) = label (label_of l).0 (label_of l).1
 
 -- up to four fields
 abbrev pub fields_of : Fields → Option (List Cut)

@@ -1,22 +1,21 @@
 // Fields of a line.
 ghost use Rattle.std.specs.Prelude.{◌≡◌};
 ghost use Rattle.std.specs.Option.{option_map};
+ghost use Rattle.labels.specs.Order.{label_of};
 ghost use Rattle.text.specs.Parts.{part_of};
-ghost use Rattle.text.specs.Fields.{field_of, fields_of, read_field, read_label, cut_fields, number_in, letter_in, is_word};
+ghost use Rattle.text.specs.Fields.{label, field_of, fields_of, read_field, read_label, cut_fields, number_in, letter_in, is_word};
 
 use crate::number::number;
 use crate::part::Part;
 use labels::Label;
 
-// A word and a label are parts of the file, which know their place.
+// A word is a part of the file, which knows its place.
 #[derive(Clone, Copy, Debug)]
 pub enum Field<'a> {
     // Decimal digits of a number of up to 32 bits, without leading zeros.
     Number(u32),
     // Anything else between spaces, even nothing.
     Word(Part<'a>),
-    // A whole line, whose spaces belong to it.
-    Label(Label<'a>),
 }
 
 // The fields of a line; no line of a schedule has more than four.
@@ -40,11 +39,11 @@ impl<'a> Part<'a> {
         }
     }
 
-    // The part as one label, if it is one.
-    pub fn label(self) -> Option<Field<'a>>
-        ensures { option_map field_of result ≡ read_label (part_of self.entry) }
+    // The part as one label, if it is one: its spaces belong to it.
+    pub fn label(self) -> Option<Label<'a>>
+        ensures { option_map (λ l. label (label_of l).0 (label_of l).1) result ≡ read_label (part_of self.entry) }
     {
-        Label::new(self.bytes(), self.place()).map(Field::Label)
+        Label::new(self.bytes(), self.place())
     }
 
     // The fields that single spaces part. Each number of them is a variant of its own, so each cut has its own answer.
@@ -78,7 +77,7 @@ impl Field<'_> {
     {
         match self {
             Field::Number(value) if value <= most => Some(value),
-            Field::Number(_) | Field::Word(_) | Field::Label(_) => None,
+            Field::Number(_) | Field::Word(_) => None,
         }
     }
 
@@ -91,7 +90,7 @@ impl Field<'_> {
                 [byte] => Some(char::from(*byte)),
                 _ => None,
             },
-            Field::Number(_) | Field::Label(_) => None,
+            Field::Number(_) => None,
         }
     }
 
