@@ -14,11 +14,8 @@ fn with_digit(value: u32, byte: u8) -> Option<u32>
 fn digits(text: &[u8]) -> Option<u32>
     ensures { result ≡ digits_after 0 text.now }
 {
-    let mut value = 0;
-    for byte in text {
-        value = with_digit(value, *byte)?;
-    }
-    Some(value)
+    text.iter()
+        .try_fold(0, |value, byte| with_digit(value, *byte))
 }
 
 // The number whose decimal digits these bytes are, if they are any number's of up to 32 bits.
