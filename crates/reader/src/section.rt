@@ -18,7 +18,8 @@ use text::fault::LineFault;
 use text::part::Part;
 
 // What follows so many lines, if each says what it should. It keeps nothing of what they say: one function for this and `read_into` would take
-// a trait of what keeps a line, with room for more among its laws and an impl that keeps nothing, which is longer than both loops.
+// a trait of what keeps a line, with room for more among its laws and an impl that keeps nothing, which is longer than both loops. It is no
+// fold either: the check follows no closure that calls a function whose bound names a lifetime, as that of `first_line` does.
 // The part and the number of lines stay two arguments, as in all that read lines: the one comes from the line before, the other from the contents.
 fn check_lines<'a, T: OneLine<'a> + Drop>(rest: Part<'a>, count: u32) -> Result<Part<'a>, LineFault>
     ensures { end_seen result ≡ end_of (lines_of T.rule count (part_of rest.entry)) }
