@@ -107,7 +107,6 @@ impl<P: Copy> Wire<P> {
         ensures there { is_some result ≡ nat_lt item (length (senders self.old.items)) }
         ensures after { self.new ≡ holding self.old (remove self.old.items item) }
         ensures untouched { is_some result ≡ false → self.new ≡ self.old }
-        ensures fewer { length self.new.items ≤ length self.old.items }
     {
         self.items.remove(item)
     }
@@ -116,7 +115,6 @@ impl<P: Copy> Wire<P> {
     pub fn lose(&mut self, cards: &Cards, item: usize) -> Result<(), Refusal>
         ensures answer { result ≡ lose_answer (net_of cards.now (senders self.old.items) 0) item }
         ensures after { self.new ≡ (if is_ok result then holding self.old (remove self.old.items item) else self.old) }
-        ensures fewer { length self.new.items ≤ length self.old.items }
     {
         let sender = self.sender_of(item).ok_or(Refusal::NoSuchItem)?;
         if !cards.has_crashed(sender) {
