@@ -53,6 +53,7 @@ pub trait Consensus: Sized {
 
     ghost suspecting: { State → ℕ → ℕ → State };
 
+    // A call takes the numbers that the rules name: a struct of them would be made for the one call.
     fn new(heap: Global, count: usize) -> Result<Self, AllocError>
         ensures { IfOk result (λ x. state x ≡ start count) };
 

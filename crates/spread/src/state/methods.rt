@@ -59,14 +59,11 @@ impl Spread {
         self.wire.lose(&self.cards, item)
     }
 
-    // A part's own cards and own wire, so each part says it: a function for both would take as many words to call.
     pub fn crash(&mut self, card: usize) -> Result<(), Refusal>
         ensures answer { result ≡ crash_answer (net_of self.old.cards (senders self.old.wire) 0) card }
         ensures after { self.new ≡ (if is_ok result then crash_on self.old card else self.old) }
     {
-        self.cards.crash(card)?;
-        self.wire.let_go(card);
-        Ok(())
+        self.wire.crash(&mut self.cards, card)
     }
 
     pub fn suspect(&mut self, by: usize, card: usize) -> Result<(), Refusal>
