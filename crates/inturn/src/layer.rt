@@ -28,6 +28,7 @@ pub struct InTurn<B: Broadcast> {
 impl<B: Broadcast> Broadcast for InTurn<B> {
     ghost State = { Layered B.Broadcast.State };
 
+    // No Model of `InTurn`, since its `Value` could not be made of `B.Broadcast.State`.
     ghost state = { layer_of B.Broadcast.state };
 
     ghost cards = { λ s. B.Broadcast.cards s.below };
