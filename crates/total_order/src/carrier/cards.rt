@@ -1,7 +1,6 @@
 // What the carrier shows of its cards, and which of them can propose or take.
 ghost use Rattle.std.specs.Prelude.{◌≡◌, ℕ, ◌<◌, ◌≤◌, true, List, [], length, Ok, IfOk, Decides};
 ghost use Rattle.std.specs.Result.{result_and};
-ghost use Rattle.notes.specs.Models.{bits};
 ghost use Rattle.parts.specs.Views.{Quiet};
 ghost use Rattle.parts.specs.Shown.{shown};
 ghost use Rattle.parts.specs.Broadcasting.{UniformAgreement};
@@ -83,14 +82,14 @@ impl<B: Broadcast, C: Consensus> Carrier<B, C> {
     // The notes handed to a card that are not in its log.
     #[tactic(auto, unfolding(crate::specs::Carrying::waiting))]
     pub(crate) fn waiting(&self, card: usize) -> NoteSet
-        ensures { bits result ≡ waiting B.Broadcast C.Consensus (model B.Broadcast C.Consensus self.now) card }
+        ensures { result ≡ waiting B.Broadcast C.Consensus (model B.Broadcast C.Consensus self.now) card }
     {
         self.broadcast.handed_to(card).without(self.notes_of(card))
     }
 
     // The notes of a card's log.
     fn notes_of(&self, card: usize) -> NoteSet
-        ensures { bits result ≡ with_all 0 (log_at B.Broadcast C.Consensus (model B.Broadcast C.Consensus self.now) card) }
+        ensures { result ≡ with_all 0 (log_at B.Broadcast C.Consensus (model B.Broadcast C.Consensus self.now) card) }
     {
         self.cards
             .get(card)
@@ -120,7 +119,7 @@ impl<B: Broadcast, C: Consensus> Carrier<B, C> {
     // The decision that take would take.
     pub(crate) fn decision(&self, card: usize) -> Result<NoteSet, Refusal>
         ensures answer { result_and result (Ok tt) ≡ take_reply B.Broadcast C.Consensus (model B.Broadcast C.Consensus self.now) card }
-        ensures decided { IfOk result (λ s. (card < 6) × (bits s ≡ number_in (decision_at B.Broadcast C.Consensus (model B.Broadcast C.Consensus self.now) card))) }
+        ensures decided { IfOk result (λ s. (card < 6) × (s ≡ number_in (decision_at B.Broadcast C.Consensus (model B.Broadcast C.Consensus self.now) card))) }
     {
         if card >= self.card_count() {
             return Err(Refusal::NoSuchCard);

@@ -1,9 +1,7 @@
 // The calls on a carrier other than settle. A refused call changes nothing.
 ghost use Rattle.std.specs.Prelude.{◌≡◌, ℕ, ◌<◌, length, nat_lt, slice_set};
-ghost use Rattle.notes.specs.Models.{bits};
 ghost use Rattle.parts.specs.Refusals.{propose_answer};
 ghost use Rattle.parts.specs.Shown.{told};
-ghost use Rattle.logs.specs.Models.{list_of, order_of};
 ghost use Rattle.logs.specs.Orders.{appended};
 ghost use Rattle.total_order.specs.Carrying.{one_more, if_accepted, moved, counted, log_at, instance_at, waiting, propose_reply, posting, carrying, losing, crashing, suspecting, proposing, taking};
 ghost use Rattle.total_order.specs.Models.{model};
@@ -135,7 +133,7 @@ impl<B: Broadcast, C: Consensus> Carrier<B, C> {
         ensures broadcast { (model B.Broadcast C.Consensus self.new).broadcast ≡ (model B.Broadcast C.Consensus self.old).broadcast }
         ensures consensus { (model B.Broadcast C.Consensus self.new).consensus ≡ (model B.Broadcast C.Consensus self.old).consensus }
         ensures order { (model B.Broadcast C.Consensus self.new).order ≡ (model B.Broadcast C.Consensus self.old).order }
-        ensures log { (model B.Broadcast C.Consensus self.new).logs ≡ slice_set (model B.Broadcast C.Consensus self.old).logs card (appended (model B.Broadcast C.Consensus self.old).order (log_at B.Broadcast C.Consensus (model B.Broadcast C.Consensus self.old) card) (bits decided)) }
+        ensures log { (model B.Broadcast C.Consensus self.new).logs ≡ slice_set (model B.Broadcast C.Consensus self.old).logs card (appended (model B.Broadcast C.Consensus self.old).order (log_at B.Broadcast C.Consensus (model B.Broadcast C.Consensus self.old) card) decided) }
         ensures instances { (model B.Broadcast C.Consensus self.new).instances ≡ slice_set (model B.Broadcast C.Consensus self.old).instances card (one_more (instance_at B.Broadcast C.Consensus (model B.Broadcast C.Consensus self.old) card)) }
         ensures steps { (model B.Broadcast C.Consensus self.new).steps ≡ (model B.Broadcast C.Consensus self.old).steps }
     {
@@ -145,7 +143,7 @@ impl<B: Broadcast, C: Consensus> Carrier<B, C> {
 
 impl Progress {
     fn go_on(&mut self, ranking: &Ranking, decided: NoteSet)
-        ensures log { list_of self.new.log ≡ appended (order_of ranking.now) (list_of self.old.log) (bits decided) }
+        ensures log { self.new.log ≡ appended ranking.now self.old.log decided }
         ensures instance { self.new.instance ≡ one_more self.old.instance }
     {
         self.log.append(ranking, decided);
