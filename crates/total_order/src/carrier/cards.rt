@@ -1,6 +1,7 @@
 // What the carrier shows of its cards, and which of them can propose or take.
-ghost use Rattle.std.specs.Prelude.{◌≡◌, ℕ, ◌<◌, ◌≤◌, true, List, [], length, Ok, IfOk, Decides};
+ghost use Rattle.std.specs.Prelude.{◌≡◌, ℕ, ◌<◌, ◌≤◌, true, List, [], length, Ok, Err, IfOk, if◌then◌else◌, Decides};
 ghost use Rattle.std.specs.Result.{result_and};
+ghost use Rattle.parts.specs.declared.refusal.Refusal.TheVariants.{NoSuchCard, CardCrashed};
 ghost use Rattle.parts.specs.Views.{Quiet};
 ghost use Rattle.parts.specs.Shown.{shown};
 ghost use Rattle.parts.specs.Broadcasting.{UniformAgreement};
@@ -100,12 +101,10 @@ impl<B: Broadcast, C: Consensus> Carrier<B, C> {
     pub(crate) fn may_propose(&self, card: usize) -> Result<(), Refusal>
         ensures { result ≡ propose_reply B.Broadcast C.Consensus (model B.Broadcast C.Consensus self.now) card }
     {
-        if card >= self.card_count() || card >= self.consensus.card_count() {
-            return Err(Refusal::NoSuchCard);
-        }
-        if self.consensus.has_crashed(card) {
-            return Err(Refusal::CardCrashed);
-        }
+        acting(
+            card < self.card_count() && card < self.consensus.card_count(),
+            self.consensus.has_crashed(card),
+        )?;
         let instance = self.instance(card);
         if self.consensus.proposal_of(instance, card).is_some() {
             return Err(Refusal::AlreadyProposed);
@@ -121,15 +120,21 @@ impl<B: Broadcast, C: Consensus> Carrier<B, C> {
         ensures answer { result_and result (Ok tt) ≡ take_reply B.Broadcast C.Consensus (model B.Broadcast C.Consensus self.now) card }
         ensures decided { IfOk result (λ s. (card < 6) × (s ≡ number_in (decision_at B.Broadcast C.Consensus (model B.Broadcast C.Consensus self.now) card))) }
     {
-        if card >= self.card_count() {
-            return Err(Refusal::NoSuchCard);
-        }
-        if self.broadcast.has_crashed(card) {
-            return Err(Refusal::CardCrashed);
-        }
+        acting(card < self.card_count(), self.broadcast.has_crashed(card))?;
         self.consensus
             .decision_of(self.instance(card), card)
             .ok_or(Refusal::NothingDecided)
+    }
+}
+
+// A card acts only if it is there and runs.
+pub(super) fn acting(there: bool, crashed: bool) -> Result<(), Refusal>
+    ensures { result ≡ (if there then if crashed then Err CardCrashed else Ok tt else Err NoSuchCard) }
+{
+    match (there, crashed) {
+        (false, _) => Err(Refusal::NoSuchCard),
+        (true, true) => Err(Refusal::CardCrashed),
+        (true, false) => Ok(()),
     }
 }
 

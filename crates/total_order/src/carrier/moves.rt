@@ -6,6 +6,7 @@ ghost use Rattle.logs.specs.Orders.{appended};
 ghost use Rattle.total_order.specs.Carrying.{one_more, if_accepted, moved, counted, log_at, instance_at, waiting, propose_reply, posting, carrying, losing, crashing, suspecting, proposing, taking};
 ghost use Rattle.total_order.specs.Models.{model};
 
+use super::cards::acting;
 use super::{Carrier, Progress};
 use crate::call::Wire;
 use logs::ranking::Ranking;
@@ -23,12 +24,10 @@ impl<B: Broadcast, C: Consensus> Carrier<B, C> {
         if self.has_note(note) {
             return self.broadcast.post(card, note);
         }
-        if card >= self.broadcast.card_count() {
-            return Err(Refusal::NoSuchCard);
-        }
-        if self.broadcast.has_crashed(card) {
-            return Err(Refusal::CardCrashed);
-        }
+        acting(
+            card < self.broadcast.card_count(),
+            self.broadcast.has_crashed(card),
+        )?;
         Err(Refusal::NoSuchNote)
     }
 
@@ -45,7 +44,7 @@ impl<B: Broadcast, C: Consensus> Carrier<B, C> {
         Ok(())
     }
 
-    // An item of a wire, from a crashed sender, is lost.
+    // An item of a wire, from a crashed sender, is lost. Written out beside `carry`: to share it, both calls of both parts would go in as closures.
     pub fn lose(&mut self, wire: Wire, item: usize) -> Result<(), Refusal>
         ensures answer { result ≡ (losing B.Broadcast C.Consensus (model B.Broadcast C.Consensus self.old) wire item).answer }
         ensures after { model B.Broadcast C.Consensus self.new ≡ (losing B.Broadcast C.Consensus (model B.Broadcast C.Consensus self.old) wire item).next }

@@ -49,7 +49,7 @@ impl<B: Broadcast, C: Consensus> Carrier<B, C> {
         limit
     }
 
-    // The first possible step.
+    // The first possible step. An `if` for each: they are calls of four kinds, and two need a card that is found first.
     #[tactic(auto, unfolding(crate::specs::Carrying::advanced))]
     fn advance(&mut self)
         ensures { model B.Broadcast C.Consensus self.new ≡ advanced B.Broadcast C.Consensus (model B.Broadcast C.Consensus self.old) }
