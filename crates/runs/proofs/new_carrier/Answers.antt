@@ -1,11 +1,12 @@
-use Rattle.std.proofs.Common.{◌≡◌, Bool, List, length, IfOk, Ok, Err, Result, subst}
+use Rattle.std.proofs.Common.{◌≡◌, Bool, List, IfOk, Ok, Err, Result, subst}
 use Rattle.std.specs.declared.alloc.AllocError.{AllocError}
 use Rattle.parts.specs.declared.broadcast.Broadcast.{Ghosts as Broadcasts}
 use Rattle.parts.specs.declared.consensus.Consensus.{Ghosts as Consensuses}
-use Rattle.logs.specs.Orders.{in_ranking_order, RankingOrder}
-use Rattle.total_order.specs.Carrying.{Carrying, fresh, cards_of}
+use Rattle.logs.specs.Orders.{RankingOrder}
+use Rattle.total_order.specs.Carrying.{Carrying}
 use Rattle.total_order.specs.Models.{model}
 use Rattle.total_order.specs.declared.carrier.Carrier.{Carrier}
+use Rattle.runs.specs.Scripts.{begun}
 use Rattle.runs.proofs.new_carrier.Goals as goal
 
 -- The order of a new carrier is a ranking order of the book.
@@ -18,6 +19,5 @@ pub returns : goal.returns
 returns g c =
     let b = g.B.Broadcast in
     let d = g.C.Consensus in
-    let book = c.args.script.now.book.now in
-    let s = fresh b d (cards_of c.args.script.now.cards (length book)) (in_ranking_order g.K.Kind.precedes book) in
-    record { fresh = c.new.ensures.fresh; ranked = ranked b d g.K.Kind.precedes book s c.new.result c.new.ensures.fresh c.new.ensures.ranked }
+    let script = c.args.script.now in
+    record { fresh = c.new.ensures.fresh; ranked = ranked b d g.K.Kind.precedes script.book.now (begun b d g.K.Kind.precedes script) c.new.result c.new.ensures.fresh c.new.ensures.ranked }

@@ -1,7 +1,7 @@
 use Rattle.std.proofs.Common.{length, sym, subst}
-use Rattle.logs.specs.Orders.{in_ranking_order}
-use Rattle.total_order.specs.Carrying.{Carrying, fresh, cards_of}
+use Rattle.total_order.specs.Carrying.{Carrying}
 use Rattle.total_order.specs.Models.{model}
+use Rattle.runs.specs.Scripts.{cards_in, order_in, begun}
 use Rattle.runs.specs.Runs.{left_by, answers_to}
 use Rattle.runs.specs.Tally.{tally}
 use Rattle.runs.specs.Law.{OneOrder}
@@ -18,12 +18,12 @@ pub returns : goal.returns
 returns g c =
     let b = g.B.Broadcast in
     let d = g.C.Consensus in
-    let xs = c.args.script.now.calls.now in
-    let book = c.args.script.now.book.now in
-    let n = cards_of c.args.script.now.cards (length book) in
-    let order = in_ranking_order g.K.Kind.precedes book in
-    let new = fresh b d n order in
-    let F = run_fits b d (means g) c.args.script.now.cards (length book) order (listed g.K.Kind.precedes book c.requires.ranked) xs in
+    let script = c.args.script.now in
+    let xs = script.calls.now in
+    let n = cards_in script in
+    let order = order_in g.K.Kind.precedes script in
+    let new = begun b d g.K.Kind.precedes script in
+    let F = run_fits b d (means g) script.cards (length script.book.now) order (listed g.K.Kind.precedes script.book.now c.requires.ranked) xs in
     let O = ordered b d (means g) n (tally xs (answers_to b d new xs)) (left_by b d new xs) F in
     record {
       made = subst (λ (z : Carrying b d). b.made z.broadcast) (sym c.requires.carrier) F.good.broadcast_made;

@@ -56,7 +56,7 @@ impl<B: Broadcast, C: Consensus> Carrier<B, C> {
         self.steps
     }
 
-    // How many items are on a wire.
+    // How many items are on a wire. The two parts are of two types, so each wire has its own call, here and in `carry` and `lose`.
     pub fn wire_len(&self, wire: Wire) -> usize
         ensures { result ≡ length (wire_on B.Broadcast C.Consensus (model B.Broadcast C.Consensus self.now) wire) }
     {

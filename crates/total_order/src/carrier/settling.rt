@@ -40,6 +40,7 @@ impl<B: Broadcast, C: Consensus> Carrier<B, C> {
         ensures steps { result ≡ settle_steps B.Broadcast C.Consensus limit (model B.Broadcast C.Consensus self.old) }
         ensures after { model B.Broadcast C.Consensus self.new ≡ settled B.Broadcast C.Consensus limit (model B.Broadcast C.Consensus self.old) }
     {
+        // No `find`: each turn that is not the last changes the carrier.
         for made in 0..limit {
             if self.is_at_rest() {
                 return made;
