@@ -1,4 +1,4 @@
-ghost use Rattle.std.specs.Prelude.{ℕ, ◌≤◌, List, vec_items, vec_capacity};
+ghost use Rattle.std.specs.Prelude.{◌≤◌, List, vec_items, vec_capacity};
 ghost use Rattle.inturn.specs.declared.post.Post.{Post};
 
 use crate::post::Post;

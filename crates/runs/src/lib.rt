@@ -1,7 +1,7 @@
 // Runs: a list of calls on a new carrier. Whatever the broadcast, the consensus and the calls, the cards log the notes in one order.
 #![tactic(auto)]
 
-ghost use Rattle.std.specs.Prelude.{◌≡◌, ℕ, ◌+◌, ◌<◌, ◌≤◌, true, List, [], ◌∷◌, ◌++◌, length, IfOk, vec_len, vec_capacity, Decides, OnOk};
+ghost use Rattle.std.specs.Prelude.{◌≡◌, ◌+◌, ◌<◌, ◌≤◌, true, [], ◌∷◌, ◌++◌, length, IfOk, vec_len, vec_capacity, Decides, OnOk};
 ghost use Rattle.parts.specs.Views.{Quiet};
 ghost use Rattle.parts.specs.Shown.{shown};
 ghost use Rattle.parts.specs.Broadcasting.{UniformAgreement};

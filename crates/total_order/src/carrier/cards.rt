@@ -1,5 +1,5 @@
 // What the carrier shows of its cards, and which of them can propose or take.
-ghost use Rattle.std.specs.Prelude.{◌≡◌, ℕ, ◌<◌, ◌≤◌, true, List, [], length, Ok, Err, IfOk, if◌then◌else◌, Decides};
+ghost use Rattle.std.specs.Prelude.{◌≡◌, ◌<◌, ◌≤◌, true, length, Ok, Err, IfOk, if◌then◌else◌, Decides};
 ghost use Rattle.std.specs.Result.{result_and};
 ghost use Rattle.parts.specs.declared.refusal.Refusal.TheVariants.{NoSuchCard, CardCrashed};
 ghost use Rattle.parts.specs.Views.{Quiet};

@@ -1,9 +1,7 @@
 // The calls on a carrier other than settle. A refused call changes nothing.
-ghost use Rattle.std.specs.Prelude.{◌≡◌, ℕ, ◌<◌, length, nat_lt, slice_set};
-ghost use Rattle.parts.specs.Refusals.{propose_answer};
-ghost use Rattle.parts.specs.Shown.{told};
+ghost use Rattle.std.specs.Prelude.{◌≡◌, ◌<◌, length, nat_lt, slice_set};
 ghost use Rattle.logs.specs.Orders.{appended};
-ghost use Rattle.total_order.specs.Carrying.{one_more, if_accepted, moved, counted, log_at, instance_at, waiting, propose_reply, posting, carrying, losing, crashing, suspecting, proposing, taking};
+ghost use Rattle.total_order.specs.Carrying.{one_more, if_accepted, moved, log_at, instance_at, waiting, propose_reply, posting, carrying, losing, crashing, suspecting, proposing, taking};
 ghost use Rattle.total_order.specs.Models.{model};
 
 use super::cards::acting;

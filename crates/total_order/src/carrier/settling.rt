@@ -1,6 +1,6 @@
 // Rest, and settle, which goes towards it.
-ghost use Rattle.std.specs.Prelude.{◌≡◌, ℕ, ◌+◌, ◌-◌, ◌<◌, true, None, if◌then◌else◌};
-ghost use Rattle.total_order.specs.Carrying.{taker, proposer, at_rest, take_or_propose, advanced, settled, settle_steps};
+ghost use Rattle.std.specs.Prelude.{◌≡◌};
+ghost use Rattle.total_order.specs.Carrying.{taker, proposer, at_rest, advanced, settled, settle_steps};
 ghost use Rattle.total_order.specs.Models.{model};
 
 use super::Carrier;
