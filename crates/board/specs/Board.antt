@@ -3,11 +3,10 @@ use Rattle.std.specs.Prelude.{ℕ, Bool, List, [], ◌++◌, length, replicate, 
 use Rattle.std.specs.List.{slice_get, remove}
 use Rattle.parts.specs.Views.{BroadcastView}
 use Rattle.parts.specs.Broadcasting.{broadcast_view}
-use Rattle.cards.specs.Cards.{CardState, cards_of, crashed_in, suspects_in, new_cards, with_crash, with_suspicion}
-use Rattle.tables.specs.Tables.{posters_of, poster_in, card_sets_of, set_in, with_note}
-use Rattle.wire.specs.Wires.{items_of, senders, sent, without_to}
+use Rattle.cards.specs.Cards.{CardState, crashed_in, suspects_in, new_cards, with_crash, with_suspicion}
+use Rattle.tables.specs.Tables.{poster_in, set_in, with_note}
+use Rattle.wire.specs.Wires.{senders, sent, without_to}
 use Rattle.wire.specs.declared.Item.{Item}
-use Rattle.board.specs.declared.state.Board.{Board}
 
 -- An item's load is the note that it hands over.
 pub record BoardState : Type 0 where
@@ -15,9 +14,6 @@ pub record BoardState : Type 0 where
   pub posters : List (Option ℕ)
   pub handed : List ℕ
   pub wire : List (Item ℕ)
-
-abbrev pub board_of : Board → BoardState
-board_of b = record { cards = cards_of b.cards; posters = posters_of b.posters; handed = card_sets_of b.handed; wire = items_of b.wire }
 
 -- What is seen.
 

@@ -1,8 +1,5 @@
-ghost use Rattle.std.specs.Prelude.{◌+◌, ◌*◌, ◌≤◌, length};
-ghost use Rattle.tables.specs.Tables.{posters_of, free_notes};
-ghost use Rattle.wire.specs.Wires.{items_of, room_of};
-
 use cards::Cards;
+use std::marker::Model;
 use tables::card_sets::CardSets;
 use tables::posters::Posters;
 use wire::Wire;
@@ -16,6 +13,17 @@ pub struct Board {
     posters: Posters,
     handed: CardSets,
     wire: Wire<usize>,
-    // There is room for the items of every post to come.
-    ghost room: { length (items_of wire) + 6 * free_notes (posters_of posters) ≤ room_of wire },
+}
+
+impl Model for Board {
+    ghost use Rattle.std.specs.Prelude.{◌+◌, ◌*◌, ◌≤◌, length};
+    ghost use Rattle.tables.specs.Tables.{free_notes};
+    ghost use Rattle.board.specs.Board.{BoardState};
+
+    ghost Value = { BoardState };
+
+    ghost view = { λ b. record { cards = b.cards; posters = b.posters; handed = b.handed; wire = b.wire.items } };
+
+    // There is room for the items of every post to come, each for at most six cards.
+    ghost invariant = { λ b. (b.cards.count ≤ 6) × (length b.wire.items + 6 * free_notes b.posters ≤ b.wire.room) };
 }

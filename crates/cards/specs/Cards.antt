@@ -1,17 +1,13 @@
 -- The cards of a part: what their state holds, and what a crash and a suspicion make of it.
-use Rattle.std.specs.Prelude.{◌≡◌, ℕ, ◌<◌, ◌≤◌, Bool, true, false, cond, not, ◌||◌, List, [], map, length, replicate, nat_lt, slice_index_or, slice_set}
+use Rattle.std.specs.Prelude.{◌≡◌, ℕ, ◌<◌, ◌≤◌, Bool, true, false, cond, not, ◌||◌, List, [], length, replicate, nat_lt, slice_index_or, slice_set}
 use Rattle.std.specs.List.{list_all, range_with_len}
 use Rattle.parts.specs.Views.{Net}
-use Rattle.cards.specs.declared.Cards.{Cards}
 
 -- `suspicions` has a row for each card: whom it suspects.
 pub record CardState : Type 0 where
   pub count : ℕ
   pub crashed : List Bool
   pub suspicions : List (List Bool)
-
-abbrev pub cards_of : Cards → CardState
-cards_of c = record { count = c.size; crashed = map (λ k. k.crashed) c.cards; suspicions = map (λ k. k.suspects) c.cards }
 
 abbrev pub crashed_in : CardState → ℕ → Bool
 crashed_in c p = slice_index_or c.crashed p false

@@ -1,6 +1,6 @@
 #![tactic(auto)]
 
-ghost use Rattle.std.specs.Prelude.{◌≤◌};
+use std::marker::Model;
 
 pub mod methods;
 
@@ -16,5 +16,15 @@ struct Card {
 pub struct Cards {
     size: usize,
     cards: [Card; 6],
-    ghost few: { size ≤ 6 },
+}
+
+impl Model for Cards {
+    ghost use Rattle.std.specs.Prelude.{◌≤◌, map};
+    ghost use Rattle.cards.specs.Cards.{CardState};
+
+    ghost Value = { CardState };
+
+    ghost view = { λ c. record { count = c.size; crashed = map (λ k. k.crashed) c.cards; suspicions = map (λ k. k.suspects) c.cards } };
+
+    ghost invariant = { λ c. c.size ≤ 6 };
 }

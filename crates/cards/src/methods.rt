@@ -1,6 +1,6 @@
-ghost use Rattle.std.specs.Prelude.{◌≡◌, [], is_ok, if◌then◌else◌, Decides, Ok};
+ghost use Rattle.std.specs.Prelude.{◌≡◌, ◌<◌, ◌≤◌, true, [], is_ok, if◌then◌else◌, Decides, Ok};
 ghost use Rattle.parts.specs.Refusals.{acting_answer, crash_answer, suspect_answer};
-ghost use Rattle.cards.specs.Cards.{cards_of, crashed_in, suspects_in, new_cards, with_crash, with_suspicion, net_of, knows, knows_all, AllSuspected};
+ghost use Rattle.cards.specs.Cards.{crashed_in, suspects_in, new_cards, with_crash, with_suspicion, net_of, knows, knows_all, AllSuspected};
 
 use super::{Card, Cards};
 use parts::refusal::Refusal;
@@ -8,7 +8,7 @@ use parts::refusal::Refusal;
 impl Cards {
     // A count above 6 makes none.
     pub fn new(count: usize) -> Cards
-        ensures { cards_of result ≡ new_cards count }
+        ensures { result ≡ new_cards count }
     {
         Cards {
             size: if count > 6 { 0 } else { count },
@@ -20,20 +20,22 @@ impl Cards {
     }
 
     pub fn count(&self) -> usize
-        ensures { result ≡ (cards_of self.now).count }
+        ensures count { result ≡ self.now.count }
+        ensures few { result ≤ 6 }
     {
         self.size
     }
 
     pub fn has_crashed(&self, card: usize) -> bool
-        ensures { result ≡ crashed_in (cards_of self.now) card }
+        ensures { result ≡ crashed_in self.now card }
     {
         self.cards.get(card).is_some_and(|known| known.crashed)
     }
 
     // Whether the card may act: it is one of the cards, and runs.
     pub fn acting(&self, card: usize) -> Result<(), Refusal>
-        ensures { result ≡ acting_answer (net_of (cards_of self.now) [] 0) card (Ok tt) }
+        ensures answer { result ≡ acting_answer (net_of self.now [] 0) card (Ok tt) }
+        ensures few { is_ok result ≡ true → card < 6 }
     {
         if card >= self.count() {
             return Err(Refusal::NoSuchCard);
@@ -45,7 +47,7 @@ impl Cards {
     }
 
     pub fn suspects(&self, who: usize, whom: usize) -> bool
-        ensures { result ≡ suspects_in (cards_of self.now) who whom }
+        ensures { result ≡ suspects_in self.now who whom }
     {
         self.cards
             .get(who)
@@ -56,8 +58,8 @@ impl Cards {
 
     #[tactic(auto, using(crate::proofs::Known::crash_written, crate::proofs::Known::crash_apart))]
     pub fn crash(&mut self, card: usize) -> Result<(), Refusal>
-        ensures answer { result ≡ crash_answer (net_of (cards_of self.old) [] 0) card }
-        ensures after { cards_of self.new ≡ (if is_ok result then with_crash (cards_of self.old) card else cards_of self.old) }
+        ensures answer { result ≡ crash_answer (net_of self.old [] 0) card }
+        ensures after { self.new ≡ (if is_ok result then with_crash self.old card else self.old) }
     {
         self.acting(card)?;
         self.cards[card].crashed = true;
@@ -66,8 +68,8 @@ impl Cards {
 
     #[tactic(auto, using(crate::proofs::Known::suspicion_written, crate::proofs::Known::suspicion_apart))]
     pub fn suspect(&mut self, by: usize, card: usize) -> Result<(), Refusal>
-        ensures answer { result ≡ suspect_answer (net_of (cards_of self.old) [] 0) by card }
-        ensures after { cards_of self.new ≡ (if is_ok result then with_suspicion (cards_of self.old) by card else cards_of self.old) }
+        ensures answer { result ≡ suspect_answer (net_of self.old [] 0) by card }
+        ensures after { self.new ≡ (if is_ok result then with_suspicion self.old by card else self.old) }
     {
         if by >= self.count() || card >= self.count() {
             return Err(Refusal::NoSuchCard);
@@ -84,20 +86,20 @@ impl Cards {
 
     // Whether every running card suspects every crashed one.
     pub fn all_suspected(&self) -> bool
-        ensures { Decides result (AllSuspected (cards_of self.now)) }
+        ensures { Decides result (AllSuspected self.now) }
     {
         (0..self.count()).all(|who| self.knows_all(who))
     }
 
     // Whether the card, if it runs, suspects every crashed one.
     fn knows_all(&self, who: usize) -> bool
-        ensures { result ≡ knows_all (cards_of self.now) who }
+        ensures { result ≡ knows_all self.now who }
     {
         (0..self.count()).all(|whom| self.knows(who, whom))
     }
 
     fn knows(&self, who: usize, whom: usize) -> bool
-        ensures { result ≡ knows (cards_of self.now) who whom }
+        ensures { result ≡ knows self.now who whom }
     {
         self.has_crashed(who) || !self.has_crashed(whom) || self.suspects(who, whom)
     }

@@ -1,24 +1,17 @@
--- A write into a table, as the list that the table stands for has it.
-use Rattle.std.proofs.Common.{◌≡◌, ℕ, ◌<◌, ◌≤◌, ◌⊎◌, List, [], map, get_or, set, Option, inl, inr, ⊎_elim, arith}
-use Rattle.std.specs.Option.{option_map}
-use Rattle.std.proofs.lemmas.List.{map-set}
-use Rattle.notes.specs.Models.{bits}
-use Rattle.notes.specs.declared.set.NoteSet.{NoteSet}
-use Rattle.cards.proofs.Lists.{write_rows, write_past}
-use Rattle.tables.specs.Tables.{ballots_of, with_ballot}
-use Rattle.tables.specs.declared.ballots.Ballots.{Ballots}
-use Rattle.tables.proofs.Free.{ballots_length, ballots_row}
+-- A place that a table of six cards in each of 32 instances does not have is not written.
+use Rattle.std.proofs.Common.{◌≡◌, ℕ, zero, suc, ◌<◌, ◌≤◌, ◌⊎◌, List, [], ◌∷◌, length, replicate, slice_index_or, Option, refl, ap, inl, inr, ⊎_elim, arith}
+use Rattle.cards.proofs.Lists.{write_past}
+use Rattle.tables.specs.Tables.{Shaped, with_ballot}
 
-pub set_written : (sets : List NoteSet) (p : ℕ) (s : NoteSet) → map bits (set sets p s) ≡ set (map bits sets) p (bits s)
-set_written sets p s = map-set bits sets p s
-
-pub ballot_written : (rows : List (List (Option NoteSet))) (k p : ℕ) (o : Option NoteSet)
-    → map (map (option_map bits)) (set rows k (set (get_or rows k []) p o)) ≡ with_ballot (map (map (option_map bits)) rows) k p (option_map bits o)
-ballot_written rows k p o = write_rows (option_map bits) rows k p o
-
--- A place that is not there is not written.
-pub no_such_place : (t : Ballots) (k p : ℕ) (o : Option ℕ) → ((k < 32) × (6 ≤ p)) ⊎ (32 ≤ k) → with_ballot (ballots_of t) k p o ≡ ballots_of t
-no_such_place t k p o =
+pub no_such_place : (t : List (List (Option ℕ))) (k p : ℕ) (o : Option ℕ) → Shaped t → ((k < 32) × (6 ≤ p)) ⊎ (32 ≤ k) → with_ballot t k p o ≡ t
+no_such_place t k p o g =
     ⊎_elim
-    (λ h. write_past (ballots_of t) 32 k p o (inl (h.0, omega (arith, ballots_row t k h.0))))
-    (λ h. write_past (ballots_of t) 32 k p o (inr (omega (arith, ballots_length t))))
+    (λ h. write_past t 32 k p o (inl (h.0, omega (arith, g.row k h.0))))
+    (λ h. write_past t 32 k p o (inr (omega (arith, g.instances))))
+
+-- A list in which each place holds the same.
+pub all_same : {X : Type 0} (n : ℕ) (xs : List X) (v : X) → length xs ≡ n → ((i : ℕ) (d : X) → i < n → slice_index_or xs i d ≡ v) → xs ≡ replicate n v
+all_same zero [] v l f = refl
+all_same zero (x ∷ xs) v l f = absurd (omega arith)
+all_same (suc n) [] v l f = absurd (omega arith)
+all_same (suc n) (x ∷ xs) v l f = rw (f 0 x (omega arith)) (ap (λ ys. v ∷ ys) (all_same n xs v (omega arith) (λ i d h. f (suc i) d (omega arith))))

@@ -1,18 +1,10 @@
 -- The tables of the parts: who posted each note, a set of notes for each card, and a proposal or decision by instance and card.
-use Rattle.std.specs.Prelude.{ℕ, ◌+◌, List, [], ◌∷◌, map, replicate, Some, None, Option, bit_or, slice_index, slice_index_or, slice_set}
-use Rattle.std.specs.Option.{option_map}
-use Rattle.notes.specs.Models.{bits}
+use Rattle.std.specs.Prelude.{◌≡◌, ℕ, ◌+◌, ◌<◌, List, [], ◌∷◌, length, replicate, Some, None, Option, bit_or, slice_index, slice_index_or, slice_set}
 use Rattle.notes.specs.Sets.{added}
 use Rattle.parts.specs.Views.{BroadcastView, ConsensusView}
 use Rattle.cards.specs.Cards.{CardState, net_of}
-use Rattle.tables.specs.declared.posters.Posters.{Posters}
-use Rattle.tables.specs.declared.card_sets.CardSets.{CardSets}
-use Rattle.tables.specs.declared.ballots.Ballots.{Ballots}
 
 -- Posters.
-
-abbrev pub posters_of : Posters → List (Option ℕ)
-posters_of t = t.by
 
 abbrev pub poster_in : List (Option ℕ) → ℕ → Option ℕ
 poster_in t m = slice_index_or t m None
@@ -32,9 +24,6 @@ free_notes (o ∷ os) = one_if_free o + free_notes os
 
 -- A set of notes for each card.
 
-abbrev pub card_sets_of : CardSets → List ℕ
-card_sets_of t = map bits t.sets
-
 abbrev pub set_in : List ℕ → ℕ → ℕ
 set_in t p = slice_index t p
 
@@ -46,8 +35,9 @@ with_notes t p s = slice_set t p (bit_or (set_in t p) s)
 
 -- A set of notes, or none, by instance and card.
 
-abbrev pub ballots_of : Ballots → List (List (Option ℕ))
-ballots_of t = map (map (option_map bits)) t.rows
+pub record Shaped {X : Type 0} (t : List (List X)) : Type 0 where
+  pub instances : length t ≡ 32
+  pub row : (k : ℕ) → k < 32 → length (slice_index_or t k []) ≡ 6
 
 abbrev pub new_ballots : List (List (Option ℕ))
 new_ballots = replicate 32 (replicate 6 None)

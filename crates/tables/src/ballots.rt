@@ -1,6 +1,5 @@
-ghost use Rattle.std.specs.Prelude.{◌≡◌, ℕ, ◌<◌, [], length, slice_index_or};
-
 use notes::set::NoteSet;
+use std::marker::Model;
 
 pub mod methods;
 
@@ -8,7 +7,15 @@ pub mod methods;
 #[derive(Drop)]
 pub struct Ballots {
     rows: [[Option<NoteSet>; 6]; 32],
-    // A proof about any table, with no code before it, learns the lengths only here.
-    ghost instances: { length rows ≡ 32 },
-    ghost row: { (k : ℕ) → k < 32 → length (slice_index_or rows k []) ≡ 6 },
+}
+
+impl Model for Ballots {
+    ghost use Rattle.std.specs.Prelude.{ℕ, List, Option};
+    ghost use Rattle.tables.specs.Tables.{Shaped};
+
+    ghost Value = { List (List (Option ℕ)) };
+
+    ghost view = { λ t. t.rows };
+
+    ghost invariant = { λ t. Shaped t.rows };
 }

@@ -1,6 +1,5 @@
-ghost use Rattle.std.specs.Prelude.{◌≡◌, length};
-
 use notes::set::NoteSet;
+use std::marker::Model;
 
 pub mod methods;
 
@@ -8,6 +7,14 @@ pub mod methods;
 #[derive(Drop)]
 pub struct CardSets {
     sets: [NoteSet; 6],
-    // A proof about any table, with no code before it, learns the length only here.
-    ghost cards: { length sets ≡ 6 },
+}
+
+impl Model for CardSets {
+    ghost use Rattle.std.specs.Prelude.{◌≡◌, ℕ, List, length};
+
+    ghost Value = { List ℕ };
+
+    ghost view = { λ t. t.sets };
+
+    ghost invariant = { λ t. length t.sets ≡ 6 };
 }

@@ -6,10 +6,8 @@ use Rattle.std.proofs.lemmas.List.{length-append, length-map, take_all, drop_all
 use Rattle.std.proofs.lemmas.Bool.{cases_Bool, cases_lt, cond-true, cond-false, cond_both, and_right, not_from_true, eq-eqb, lt-ltb, le-ltb}
 use Rattle.std.proofs.lemmas.Bool.Decides.{nat_tests}
 use Rattle.cards.specs.Cards.{CardState}
-use Rattle.wire.specs.Wires.{items_of, item, senders, joined, goes_to, sending, sent}
-use Rattle.std.specs.VecDeque.{deque_len}
+use Rattle.wire.specs.Wires.{item, senders, joined, goes_to, sending, sent}
 use Rattle.wire.specs.declared.Item.{Item}
-use Rattle.wire.specs.declared.Wire.{Wire}
 
 -- What stands at a place.
 
@@ -28,10 +26,6 @@ removed_past xs i h = rw (take_all, drop_all (suc i) xs (omega arith)) (append-n
 
 pub length_senders : {P : Type 0} (xs : List (Item P)) → length (senders xs) ≡ length xs
 length_senders xs = length-map xs (λ x. x.from)
-
--- A ring counts its items.
-pub deque_length : {P : Type 0} (w : Wire P) → deque_len w.items ≡ length (items_of w)
-deque_length w = w.items.ok.0
 
 -- All that is sent finds room, where there is room for so many.
 

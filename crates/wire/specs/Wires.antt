@@ -1,9 +1,12 @@
 -- The wire: the items under way, in order; what joins its end, what is taken, and what a crash lets go.
 use Rattle.std.specs.Prelude.{ℕ, zero, suc, Bool, false, cond, not, ◌&&◌, ◌||◌, List, [], ◌∷◌, ◌++◌, map, length, filter, ◌==◌, nat_lt}
-use Rattle.std.specs.VecDeque.{deque_items, deque_capacity}
 use Rattle.wire.specs.declared.Item.{Item}
-use Rattle.wire.specs.declared.Wire.{Wire}
 use Rattle.cards.specs.Cards.{CardState, crashed_in}
+
+-- `room`: for how many items there is room.
+pub record WireState (P : Type 0) : Type 0 where
+  pub items : List (Item P)
+  pub room : ℕ
 
 -- Nothing is sent to a crashed card, nor to the sender itself.
 abbrev pub goes_to : CardState → ℕ → ℕ → Bool
@@ -15,12 +18,9 @@ any_of test [] = false
 any_of test (x ∷ xs) = test x || any_of test xs
 
 module _ {P : Type 0} where
-  abbrev pub items_of : Wire P → List (Item P)
-  items_of w = deque_items w.items
-
-  -- How many items there is room for.
-  abbrev pub room_of : Wire P → ℕ
-  room_of w = deque_capacity w.items
+  -- A wire with other items.
+  abbrev pub holding : WireState P → List (Item P) → WireState P
+  holding w xs = record { items = xs; room = w.room }
 
   abbrev pub item : ℕ → ℕ → P → Item P
   item from to load = record { from = from; to = to; load = load }

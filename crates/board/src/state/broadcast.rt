@@ -1,4 +1,4 @@
-ghost use Rattle.board.specs.Board.{BoardState, board_of, board_cards, board_crashed, board_suspects, board_wire, board_work, board_poster, board_handed, new_board, post_on, carry_on, lose_on, crash_on, suspect_on};
+ghost use Rattle.board.specs.Board.{BoardState, board_cards, board_crashed, board_suspects, board_wire, board_work, board_poster, board_handed, new_board, post_on, carry_on, lose_on, crash_on, suspect_on};
 ghost use Rattle.board.specs.Made.{MadeBoard};
 ghost use Rattle.std.proofs.Common.{arith};
 ghost use Rattle.board.specs.Keeps.{new_made, post_made, carry_made, none_lost, crash_made, suspect_made};
@@ -21,7 +21,7 @@ const ITEMS_OF_A_POST: u32 = 6;
 impl Broadcast for Board {
     ghost State = { BoardState };
 
-    ghost state = { board_of };
+    ghost state = { λ b. b };
 
     ghost cards = { board_cards };
 

@@ -1,9 +1,6 @@
-ghost use Rattle.std.specs.Prelude.{◌≡◌, ◌+◌, is_ok, if◌then◌else◌, Some};
-ghost use Rattle.std.specs.Option.{option_map};
-ghost use Rattle.notes.specs.Models.{bits};
+ghost use Rattle.std.specs.Prelude.{◌≡◌, ◌+◌, replicate, is_ok, if◌then◌else◌, Some, None};
 ghost use Rattle.parts.specs.Refusals.{propose_answer};
-ghost use Rattle.cards.specs.Cards.{cards_of};
-ghost use Rattle.tables.specs.Tables.{ballots_of, new_ballots, ballot_in, with_ballot, proposals_view, free_ballots};
+ghost use Rattle.tables.specs.Tables.{new_ballots, ballot_in, with_ballot, proposals_view, free_ballots};
 
 use super::Ballots;
 use cards::Cards;
@@ -12,24 +9,28 @@ use parts::refusal::Refusal;
 
 impl Ballots {
     pub fn new() -> Ballots
-        ensures { ballots_of result ≡ new_ballots }
+        ensures { result ≡ new_ballots }
     {
+        // A repeat of rows would want the row to be `Copy`, which an array of what has a `Model` is not yet.
         Ballots {
-            rows: [[None; 6]; 32],
+            rows: std::array::from_fn(
+                |_: usize| -> [Option<NoteSet>; 6]
+                    ensures { result ≡ replicate 6 None }
+                { [None; 6] },
+            ),
         }
     }
 
     pub fn of(&self, instance: usize, card: usize) -> Option<NoteSet>
-        ensures { option_map bits result ≡ ballot_in (ballots_of self.now) instance card }
+        ensures { result ≡ ballot_in self.now instance card }
     {
         let row = self.rows.get(instance)?;
         row.get(card).copied().flatten()
     }
 
     // Writes down what the card has decided, or proposed.
-    #[tactic(auto, using(crate::proofs::Written::ballot_written))]
     pub fn put(&mut self, instance: usize, card: usize, notes: Option<NoteSet>)
-        ensures { ballots_of self.new ≡ with_ballot (ballots_of self.old) instance card (option_map bits notes) }
+        ensures { self.new ≡ with_ballot self.old instance card notes }
     {
         // By index: what an array's `get_mut` writes, a proof does not know.
         if instance < 32 && card < 6 {
@@ -45,9 +46,9 @@ impl Ballots {
         card: usize,
         notes: NoteSet,
     ) -> Result<(), Refusal>
-        ensures answer { result ≡ propose_answer (proposals_view (cards_of cards.now) (ballots_of self.old)) instance card (bits notes) }
-        ensures after { ballots_of self.new ≡ (if is_ok result then with_ballot (ballots_of self.old) instance card (Some (bits notes)) else ballots_of self.old) }
-        ensures free { free_ballots (ballots_of self.new) + (if is_ok result then 1 else 0) ≡ free_ballots (ballots_of self.old) }
+        ensures answer { result ≡ propose_answer (proposals_view cards.now self.old) instance card notes }
+        ensures after { self.new ≡ (if is_ok result then with_ballot self.old instance card (Some notes) else self.old) }
+        ensures free { free_ballots self.new + (if is_ok result then 1 else 0) ≡ free_ballots self.old }
     {
         cards.acting(card)?;
         if self.of(instance, card).is_some() {
@@ -56,7 +57,7 @@ impl Ballots {
         if instance >= 32 || notes.is_empty() {
             return Err(Refusal::NothingToPropose);
         }
-        self.put(instance, card, Some(notes));
+        self.rows[instance][card] = Some(notes);
         Ok(())
     }
 }

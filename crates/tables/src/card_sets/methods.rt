@@ -1,13 +1,12 @@
 ghost use Rattle.std.specs.Prelude.{◌≡◌, ◌<◌, set, replicate, slice_set};
-ghost use Rattle.notes.specs.Models.{bits};
-ghost use Rattle.tables.specs.Tables.{card_sets_of, set_in, with_note, with_notes};
+ghost use Rattle.tables.specs.Tables.{set_in, with_note, with_notes};
 
 use super::CardSets;
 use notes::set::NoteSet;
 
 impl CardSets {
     pub fn new() -> CardSets
-        ensures { card_sets_of result ≡ replicate 6 0 }
+        ensures { result ≡ replicate 6 0 }
     {
         CardSets {
             sets: [NoteSet::empty(); 6],
@@ -16,14 +15,14 @@ impl CardSets {
 
     // The set of a card; a number above 5 has none.
     pub fn of(&self, card: usize) -> NoteSet
-        ensures { bits result ≡ set_in (card_sets_of self.now) card }
+        ensures { result ≡ set_in self.now card }
     {
         self.sets.get(card).copied().unwrap_or(NoteSet::empty())
     }
 
     // Puts the note into the card's set.
     pub fn add(&mut self, card: usize, note: usize)
-        ensures { card_sets_of self.new ≡ with_note (card_sets_of self.old) card note }
+        ensures { self.new ≡ with_note self.old card note }
     {
         let held = self.of(card);
         self.put(card, held.with(note));
@@ -31,15 +30,14 @@ impl CardSets {
 
     // Puts all the notes into the card's set.
     pub fn add_all(&mut self, card: usize, notes: NoteSet)
-        ensures { card_sets_of self.new ≡ with_notes (card_sets_of self.old) card (bits notes) }
+        ensures { self.new ≡ with_notes self.old card notes }
     {
         let held = self.of(card);
         self.put(card, held.union(notes));
     }
 
-    #[tactic(auto, using(crate::proofs::Written::set_written))]
     fn put(&mut self, card: usize, notes: NoteSet)
-        ensures { card_sets_of self.new ≡ slice_set (card_sets_of self.old) card (bits notes) }
+        ensures { self.new ≡ slice_set self.old card notes }
     {
         // By index: what an array's `get_mut` writes, a proof does not know.
         if card < 6 {

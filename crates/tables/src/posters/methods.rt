@@ -1,7 +1,6 @@
 ghost use Rattle.std.specs.Prelude.{◌≡◌, ◌+◌, replicate, is_ok, if◌then◌else◌, Some, None, slice_set};
 ghost use Rattle.parts.specs.Refusals.{post_answer};
-ghost use Rattle.cards.specs.Cards.{cards_of};
-ghost use Rattle.tables.specs.Tables.{posters_of, poster_in, posts_view, free_notes};
+ghost use Rattle.tables.specs.Tables.{poster_in, posts_view, free_notes};
 
 use super::Posters;
 use cards::Cards;
@@ -9,14 +8,14 @@ use parts::refusal::Refusal;
 
 impl Posters {
     pub fn new() -> Posters
-        ensures { posters_of result ≡ replicate 32 None }
+        ensures { result ≡ replicate 32 None }
     {
         Posters { by: [None; 32] }
     }
 
     // Who has posted note m; a number above 31 is no note.
     pub fn of(&self, m: usize) -> Option<usize>
-        ensures { result ≡ poster_in (posters_of self.now) m }
+        ensures { result ≡ poster_in self.now m }
     {
         self.by.get(m).copied().flatten()
     }
@@ -24,9 +23,9 @@ impl Posters {
     // Writes down that the card has posted the note, unless the post is refused.
     #[tactic(auto, using(crate::proofs::Free::one_less_free))]
     pub fn post(&mut self, cards: &Cards, card: usize, note: usize) -> Result<(), Refusal>
-        ensures answer { result ≡ post_answer (posts_view (cards_of cards.now) (posters_of self.old)) card note }
-        ensures after { posters_of self.new ≡ (if is_ok result then slice_set (posters_of self.old) note (Some card) else posters_of self.old) }
-        ensures free { free_notes (posters_of self.new) + (if is_ok result then 1 else 0) ≡ free_notes (posters_of self.old) }
+        ensures answer { result ≡ post_answer (posts_view cards.now self.old) card note }
+        ensures after { self.new ≡ (if is_ok result then slice_set self.old note (Some card) else self.old) }
+        ensures free { free_notes self.new + (if is_ok result then 1 else 0) ≡ free_notes self.old }
     {
         cards.acting(card)?;
         let poster = self.by.get(note).ok_or(Refusal::NoSuchNote)?;
