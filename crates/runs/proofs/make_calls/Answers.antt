@@ -57,5 +57,5 @@ returns g c =
     let us = vec_items c.loop-call.answers in
     record {
       carrier = sym (at_drop_all (left_by b d s) xs i c.loop-call-test.false) ∙ c.loop-call.invariant.0;
-      answers = sym (append-nil _) ∙ sym (at_drop_all (λ ys. us ++ answers_to b d s ys) xs i c.loop-call-test.false) ∙ c.loop-call.invariant.1;
+      answers = sym (append-nil us) ∙ sym (at_drop_all (λ ys. us ++ answers_to b d s ys) xs i c.loop-call-test.false) ∙ c.loop-call.invariant.1;
     }
