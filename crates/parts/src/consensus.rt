@@ -79,6 +79,7 @@ pub trait Consensus: Sized {
     fn bound() -> u32
         ensures { result ≡ bound };
 
+    // The readers have no default bodies: a part of any make keeps its cards and its wire in its own way.
     fn card_count(&self) -> usize
         ensures { result ≡ cards (state self.now) };
 
