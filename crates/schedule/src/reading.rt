@@ -16,6 +16,7 @@ use text::fault::LineFault;
 use text::field::{Field, Fields};
 use text::part::Part;
 
+#[tactic(auto, using(crate::proofs::WordLaws::five_bytes))]
 fn kind(word: Field) -> Option<NoteKind>
     ensures { result ≡ kind_in (field_of word.entry) }
 {
@@ -44,7 +45,7 @@ impl<'a> OneLine<'a> for NoteKind {
     }
 }
 
-#[tactic(auto, using(crate::proofs::WordLaws::six_bytes))]
+#[tactic(auto, using(crate::proofs::WordLaws::five_bytes, crate::proofs::WordLaws::six_bytes))]
 fn broadcast(word: Field) -> Option<BroadcastPart>
     ensures { result ≡ broadcast_in (field_of word.entry) }
 {
@@ -59,7 +60,7 @@ fn broadcast(word: Field) -> Option<BroadcastPart>
     }
 }
 
-#[tactic(auto, using(crate::proofs::WordLaws::eight_bytes))]
+#[tactic(auto, using(crate::proofs::WordLaws::five_bytes, crate::proofs::WordLaws::eight_bytes))]
 fn consensus(word: Field) -> Option<ConsensusPart>
     ensures { result ≡ consensus_in (field_of word.entry) }
 {
