@@ -3,7 +3,7 @@ ghost use Rattle.entries.specs.Lines.{lines_of};
 ghost use Rattle.entries.specs.Events.{event_of};
 ghost use Rattle.text.specs.Parts.{part_of};
 ghost use Rattle.reader.specs.Sections.{notes_of};
-ghost use Rattle.reader.specs.Files.{schedule_of, Holds, NotesHold, EventsHold, Refuses, Answers};
+ghost use Rattle.reader.specs.Files.{schedule_of, Holds, NotesHold, EventsHold, Answers};
 ghost use Rattle.reader.specs.Says.{ReadSays};
 
 use crate::check::{check, ended, opening};
@@ -61,23 +61,15 @@ fn read_whole<'a>(heap: Global, file: &'a [u8]) -> Result<Schedule<'a>, Unread>
     })
 }
 
-// What to say where memory is wanting: the first fault all the same, if the file has one.
-// It stands apart: with `check(file)?` in `read` a proof does not come from a fault of the contents to one of the file.
-#[tactic(auto, using(crate::proofs::FileLaws::refuses))]
-fn without_memory(file: &[u8]) -> Unread
-    ensures { Refuses result (schedule_of file.now) }
-{
-    check(file).err().map_or(Unread::NoMemory, Unread::Fault)
-}
-
 // The schedule that the file says, or its first fault; want of memory hides no fault.
-#[tactic(auto, using(crate::proofs::FileTexts::read_says))]
+#[tactic(auto, using(crate::proofs::FileLaws::refuses, crate::proofs::FileTexts::read_says))]
 pub fn read<'a>(heap: Global, file: &'a [u8]) -> Result<Schedule<'a>, Unread>
     ensures value { Answers result (schedule_of file.now) }
     ensures says { ReadSays file.now result }
 {
     match read_whole(heap, file) {
-        Err(Unread::NoMemory) => Err(without_memory(file)),
+        // Without memory the first fault is said all the same, if the file has one.
+        Err(Unread::NoMemory) => Err(check(file).err().map_or(Unread::NoMemory, Unread::Fault)),
         answer => answer,
     }
 }
