@@ -2,4 +2,3 @@ pub mod DecimalLaws
 pub mod CutLaws
 pub mod LineLaws
 pub mod FieldLaws
-pub mod FoldLaws

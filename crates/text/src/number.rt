@@ -14,8 +14,11 @@ fn with_digit(value: u32, byte: u8) -> Option<u32>
 fn digits(text: &[u8]) -> Option<u32>
     ensures { result ≡ digits_after 0 text.now }
 {
-    text.iter()
-        .try_fold(0, |value, byte| with_digit(value, *byte))
+    let mut value = 0;
+    for byte in text {
+        value = with_digit(value, *byte)?;
+    }
+    Some(value)
 }
 
 // The number whose decimal digits these bytes are, if they are any number's of up to 32 bits.
