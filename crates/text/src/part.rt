@@ -6,6 +6,7 @@ ghost use Rattle.text.specs.Parts.{part_of, place_of, up_to, whole_of, before, a
 use crate::fault::LineFault;
 
 // Some bytes of a file that stand together. It keeps the place of its end, which a cut from its front leaves as it is.
+// No `impl Model`: what is `Copy` and borrows cannot have one yet.
 #[derive(Clone, Copy, Debug)]
 pub struct Part<'a> {
     bytes: &'a [u8],
