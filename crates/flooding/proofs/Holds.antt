@@ -16,7 +16,8 @@ use Rattle.cards.proofs.Nets.{new_sound, crash_sound, crash_more}
 use Rattle.wire.proofs.Taken.{lost_item}
 use Rattle.histories.specs.Moves.{Later, beginning}
 use Rattle.histories.proofs.Kept.{moves_make_histories}
-use Rattle.flooding.specs.Seats.{SeatState, no_seat, new_seats, seat_in, all_counted}
+use Rattle.flooding.specs.Seats.{no_seat, new_seats, seat_in, all_counted}
+use Rattle.flooding.specs.declared.seats.Seat.{Seat}
 use Rattle.flooding.specs.Flooding.{FloodingState, flooding_work, seen, new_flooding, lose_on, crash_on}
 use Rattle.flooding.specs.Made.{fates_of, True, brings, Tied, Underway, MadeFlooding}
 use Rattle.flooding.specs.Keeps.{new_shaped, new_seat, new_ballot, same_counted}
@@ -31,19 +32,19 @@ new_tied n k =
     record {
       past = beginning;
       history = (moves_make_histories c.count).beginning_is (fates_of c) (λ p y. same_rows 6 6 p y false);
-      stages = λ p b. sym (ap (λ o. cond (is_some o) (suc c.count) (seat_in new_seats k p).round) (new_ballot k p) ∙ ap (λ (s : SeatState). s.round) (new_seat k p));
-      proposed = λ p b. ap is_some (new_ballot k p) ∙ sym (ap (λ (s : SeatState). ltb 0 s.round) (new_seat k p));
+      stages = λ p b. sym (ap (λ o. cond (is_some o) (suc c.count) (seat_in new_seats k p).round) (new_ballot k p) ∙ ap (λ (s : Seat). s.round) (new_seat k p));
+      proposed = λ p b. ap is_some (new_ballot k p) ∙ sym (ap (λ (s : Seat). ltb 0 s.round) (new_seat k p));
       in_rounds = λ p. rw (new_seat k p) (omega arith);
       fits = λ p. rw (new_seat k p) (omega arith);
-      counts = λ p y b d. ap (λ (s : SeatState). has s.counted y) (new_seat k p) ∙ has_none y;
-      self_counted = λ p b o. absurd (let z : (seat_in new_seats k p).round ≡ 0 = ap (λ (s : SeatState). s.round) (new_seat k p) in omega arith);
-      knows = λ p z b o. absurd (let e : (seat_in new_seats k p).round ≡ 0 = ap (λ (s : SeatState). s.round) (new_seat k p) in omega arith);
+      counts = λ p y b d. ap (λ (s : Seat). has s.counted y) (new_seat k p) ∙ has_none y;
+      self_counted = λ p b o. absurd (let z : (seat_in new_seats k p).round ≡ 0 = ap (λ (s : Seat). s.round) (new_seat k p) in omega arith);
+      knows = λ p z b o. absurd (let e : (seat_in new_seats k p).round ≡ 0 = ap (λ (s : Seat). s.round) (new_seat k p) in omega arith);
       decided = λ p s e. absurd (clash (ap is_some (sym (new_ballot k p) ∙ e)));
       wire_true = tt;
       kept_true = tt;
       due = λ p q r bp bq d up uq o l h m. absurd (omega arith);
       settled = λ p b u.
-          and_right (ltb p c.count) _ (and_right (not (is_some (ballot_in new_ballots k p))) _ (and_left (ltb 0 (seat_in new_seats k p).round) (all_counted c p (seat_in new_seats k p) c.count) (ap (λ (s : SeatState). ltb 0 s.round) (new_seat k p))));
+          and_right (ltb p c.count) _ (and_right (not (is_some (ballot_in new_ballots k p))) _ (and_left (ltb 0 (seat_in new_seats k p).round) (all_counted c p (seat_in new_seats k p) c.count) (ap (λ (s : Seat). ltb 0 s.round) (new_seat k p))));
     }
 
 pub new_made : (n : ℕ) → MadeFlooding (new_flooding n)

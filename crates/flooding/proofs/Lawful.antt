@@ -18,7 +18,8 @@ use Rattle.histories.specs.Histories.{Left}
 use Rattle.histories.specs.Moves.{heard_of}
 use Rattle.histories.proofs.Agrees.{agreement}
 use Rattle.histories.proofs.Heard.{heard_knew}
-use Rattle.flooding.specs.Seats.{SeatState, seat_in, accounted_for}
+use Rattle.flooding.specs.Seats.{seat_in, accounted_for}
+use Rattle.flooding.specs.declared.seats.Seat.{Seat}
 use Rattle.flooding.specs.Flooding.{FloodingState, flooding_work, seen, proposal_of, may_move}
 use Rattle.flooding.specs.Made.{fates_of, brings, Tied, Underway, MadeFlooding}
 use Rattle.flooding.specs.Counted.{all_from_each}
@@ -61,7 +62,7 @@ module _ (x : FloodingState) (k : ℕ) (g : Tied x k) where
         → ((q : ℕ) → q < x.cards.count → crashed_in x.cards q ≡ false → g.past.round p ≤ g.past.round q) → ⊥
     stuck p b u l low =
         let n : ℕ = x.cards.count in
-        let s : SeatState = seat_in x.seats k p in
+        let s : Seat = seat_in x.seats k p in
         let runs : Runs (seen x).net p = record { card = b; up = u } in
         let undecided : is_some (ballot_in x.decisions k p) ≡ false =
         ⊎_elim (λ e. absurd (let z : g.past.round p ≡ suc n = g.stages p b ∙ cond-true _ _ _ e in omega arith)) (λ e. e) (cases_Bool (is_some (ballot_in x.decisions k p))) in

@@ -6,24 +6,25 @@ use Rattle.parts.specs.declared.refusal.Refusal.{Refusal}
 use Rattle.parts.specs.Refusals.{propose_answer}
 use Rattle.parts.proofs.Accepted.{propose_accepted, is_accepted}
 use Rattle.cards.specs.Cards.{CardState}
-use Rattle.tables.specs.Tables.{ballots_of, new_ballots, with_ballot, proposals_view, free_ballots}
+use Rattle.tables.specs.Tables.{new_ballots, with_ballot, proposals_view, free_ballots}
 use Rattle.tables.specs.declared.ballots.Ballots.{Ballots}
 use Rattle.tables.proofs.Free.{one_less_ballot, ballots_length, ballots_row}
-use Rattle.flooding.specs.Seats.{SeatState, no_seat, new_seats, seat_in, with_seat}
+use Rattle.flooding.specs.Seats.{no_seat, new_seats, seat_in, with_seat}
+use Rattle.flooding.specs.declared.seats.Seat.{Seat}
 use Rattle.flooding.specs.Room.{rounds_after, row_rounds, rounds_left}
 
 pub rounds_step : (r : ℕ) → 0 < r → r < 6 → rounds_after (r + 1) + 1 ≡ rounds_after r
 unfolding rounds_after
 rounds_step r o l = grind (arith, nat_tests)
 
-row_after : (ss : List SeatState) (q : ℕ) (s : SeatState) → row_rounds (set ss q s) + rounds_after (get_or ss q no_seat).round ≤ row_rounds ss + rounds_after s.round
+row_after : (ss : List Seat) (q : ℕ) (s : Seat) → row_rounds (set ss q s) + rounds_after (get_or ss q no_seat).round ≤ row_rounds ss + rounds_after s.round
 unfolding rounds_after
 row_after [] q s = omega arith
 row_after (x ∷ xs) zero s = omega arith
 row_after (x ∷ xs) (suc q) s = let h : row_rounds (set xs q s) + rounds_after (get_or xs q no_seat).round ≤ row_rounds xs + rounds_after s.round = row_after xs q s in omega arith
 
 -- What the new seat has left comes in the place of what the old one had.
-pub left_after : (t : List (List SeatState)) (k q : ℕ) (s : SeatState) → rounds_left (with_seat t k q s) + rounds_after (seat_in t k q).round ≤ rounds_left t + rounds_after s.round
+pub left_after : (t : List (List Seat)) (k q : ℕ) (s : Seat) → rounds_left (with_seat t k q s) + rounds_after (seat_in t k q).round ≤ rounds_left t + rounds_after s.round
 unfolding rounds_left rounds_after
 left_after [] k q s = omega arith
 left_after (r ∷ rs) zero q s = omega (arith, row_after r q s)

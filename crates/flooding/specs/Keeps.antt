@@ -13,7 +13,7 @@ use Rattle.parts.specs.Refusals.{propose_answer, carry_answer, lose_answer, cras
 use Rattle.parts.proofs.Accepted.{propose_accepted, crash_accepted, suspect_accepted}
 use Rattle.parts.proofs.Options.{some_held}
 use Rattle.cards.specs.Cards.{CardState, crashed_in, suspects_in, new_cards, with_crash, with_suspicion}
-use Rattle.tables.specs.Tables.{new_ballots, ballot_in, with_ballot}
+use Rattle.tables.specs.Tables.{Shaped, new_ballots, ballot_in, with_ballot}
 use Rattle.wire.specs.Wires.{any_of, elsewhere}
 use Rattle.wire.specs.declared.Item.{Item}
 use Rattle.wire.proofs.Items.{all_nth, all_left, any_left, any_append}
@@ -23,10 +23,11 @@ use Rattle.wire.proofs.Taken.{carried_item, lost_item}
 use Rattle.histories.specs.Moves.{Later, beginning, proposing}
 use Rattle.histories.proofs.Kept.{moves_make_histories}
 use Rattle.histories.proofs.Puts.{row_same}
-use Rattle.flooding.specs.Seats.{SeatState, no_seat, new_seats, seat_in, with_seat, hearing, all_counted}
-use Rattle.flooding.specs.Mail.{LoadState}
+use Rattle.flooding.specs.Seats.{no_seat, new_seats, seat_in, with_seat, hearing, all_counted}
+use Rattle.flooding.specs.declared.seats.Seat.{Seat}
+use Rattle.flooding.specs.declared.mail.Load.{Load}
 use Rattle.flooding.specs.Flooding.{FloodingState, flooding_work, seen, new_flooding, put_forward, enter_on, keep_on, hear_on, arrive_on, arrive_by, settle_on, propose_on, carry_on, lose_on, crash_on, doubt_on, suspect_on, may_move}
-use Rattle.flooding.specs.Made.{Shaped, fates_of, brings, Underway}
+use Rattle.flooding.specs.Made.{fates_of, brings, Underway}
 use Rattle.flooding.specs.Sound.{Stands, Says, SaysIn, TiedSeats, SoundFlooding, SettledFlooding}
 use Rattle.flooding.specs.Mails.{hearing_round}
 use Rattle.flooding.specs.Works.{cell_same, cell_other, shaped_after}
@@ -84,7 +85,7 @@ new_made n =
             };
       };
       settled = λ k p l u.
-          and_right (nat_lt p c.count) _ (and_right (not (is_some (ballot_in new_ballots k p))) _ (and_left (nat_lt 0 (seat_in new_seats k p).round) (all_counted c p (seat_in new_seats k p) c.count) (ap (λ (s : SeatState). ltb 0 s.round) (new_seat k p))));
+          and_right (nat_lt p c.count) _ (and_right (not (is_some (ballot_in new_ballots k p))) _ (and_left (nat_lt 0 (seat_in new_seats k p).round) (all_counted c p (seat_in new_seats k p) c.count) (ap (λ (s : Seat). ltb 0 s.round) (new_seat k p))));
     }
 
 -- A proposal and an item that is heard: the card moves as often as it can, and no other can.
@@ -135,7 +136,7 @@ propose_made x k p s m small h =
 
 -- An item that is carried.
 
-module _ (x : FloodingState) (i : ℕ) (y : Item LoadState) (m : SettledFlooding x) (at : slice_get x.wire i ≡ Some y) where
+module _ (x : FloodingState) (i : ℕ) (y : Item Load) (m : SettledFlooding x) (at : slice_get x.wire i ≡ Some y) where
   abbrev k : ℕ
   k = y.load.instance
 
@@ -176,12 +177,12 @@ module _ (x : FloodingState) (i : ℕ) (y : Item LoadState) (m : SettledFlooding
       let c = x.cards in
       let w = under in
       let hk = w.instance_fits in
-      let s : SeatState = seat_in x.seats k q in
-      let s' : SeatState = hearing c q y.from y.load.known s in
+      let s : Seat = seat_in x.seats k q in
+      let s' : Seat = hearing c q y.from y.load.known s in
       let same : seat_in (with_seat x.seats k q s') k q ≡ s' = cell_same x.seats k q s' no_seat g.seats_shaped hk (omega (arith, w.receiver, g.sound.few)) in
-      let round : (seat_in (with_seat x.seats k q s') k q).round ≡ y.load.round = ap (λ (v : SeatState). v.round) same ∙ hearing_round c q y.from y.load.known s ∙ e in
+      let round : (seat_in (with_seat x.seats k q s') k q).round ≡ y.load.round = ap (λ (v : Seat). v.round) same ∙ hearing_round c q y.from y.load.known s ∙ e in
       let counted : has (seat_in (with_seat x.seats k q s') k q).counted y.from ≡ true =
-      ap (λ (v : SeatState). has v.counted y.from) same ∙ hearing_counts c q y.from y.load.known s (omega (arith, w.sender, g.sound.few)) trusts in
+      ap (λ (v : Seat). has v.counted y.from) same ∙ hearing_counts c q y.from y.load.known s (omega (arith, w.sender, g.sound.few)) trusts in
       let heard : SoundFlooding (hear_on x y) = hear_whole x k q g hk w.receiver w.up u y (says k (g.tied k hk) refl) refl (sym e) in
       let whole : SoundFlooding (hear_on (lose_on x i) y) =
       leave_whole (hear_on x y) i y x.kept heard at (λ j t. t.kept_true) (λ j r p b v. v)
@@ -191,7 +192,7 @@ module _ (x : FloodingState) (i : ℕ) (y : Item LoadState) (m : SettledFlooding
   arrive_made : SettledFlooding (arrive_on (lose_on x i) y)
   arrive_made =
       let c = x.cards in
-      let s : SeatState = seat_in x.seats k q in
+      let s : Seat = seat_in x.seats k q in
       let b : Bool = is_some (ballot_in x.decisions k q) in
       let d : Bool = suspects_in c q y.from in
       let x' = lose_on x i in
@@ -223,7 +224,7 @@ lose_made x i m h =
 
 -- A crash and a suspicion.
 
-pub same_counted : (c e : CardState) (q : ℕ) (s : SeatState) (m : ℕ) → ((y : ℕ) → suspects_in e q y ≡ suspects_in c q y) → all_counted e q s m ≡ all_counted c q s m
+pub same_counted : (c e : CardState) (q : ℕ) (s : Seat) (m : ℕ) → ((y : ℕ) → suspects_in e q y ≡ suspects_in c q y) → all_counted e q s m ≡ all_counted c q s m
 same_counted c e q s zero h = refl
 same_counted c e q s (suc m) h = cc (same_counted c e q s m h, h m)
 

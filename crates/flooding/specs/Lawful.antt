@@ -11,7 +11,7 @@ use Rattle.parts.specs.Views.{Runs, Quiet}
 use Rattle.parts.specs.Deciding.{Lawful}
 use Rattle.parts.proofs.Options.{some_held}
 use Rattle.cards.specs.Cards.{crashed_in}
-use Rattle.tables.specs.Tables.{ballot_in}
+use Rattle.tables.specs.Tables.{Shaped, ballot_in}
 use Rattle.wire.specs.Wires.{senders, any_of}
 use Rattle.tables.proofs.Changes.{nothing_left}
 use Rattle.cards.proofs.Nets.{lawful_net}
@@ -20,9 +20,10 @@ use Rattle.histories.specs.Histories.{Left}
 use Rattle.histories.specs.Moves.{heard_of}
 use Rattle.histories.proofs.Agrees.{agreement}
 use Rattle.histories.proofs.Heard.{heard_knew}
-use Rattle.flooding.specs.Seats.{SeatState, seat_in, accounted_for}
+use Rattle.flooding.specs.Seats.{seat_in, accounted_for}
+use Rattle.flooding.specs.declared.seats.Seat.{Seat}
 use Rattle.flooding.specs.Flooding.{FloodingState, flooding_work, seen, proposal_of, may_move}
-use Rattle.flooding.specs.Made.{Shaped, fates_of, brings, Underway}
+use Rattle.flooding.specs.Made.{fates_of, brings, Underway}
 use Rattle.flooding.specs.Sound.{TiedSeats, SettledFlooding}
 use Rattle.flooding.specs.Counted.{all_from_each}
 
@@ -82,7 +83,7 @@ module _ (x : FloodingState) (k : ℕ) (m : SettledFlooding x) (hk : k < 32) whe
         → ((q : ℕ) → q < x.cards.count → crashed_in x.cards q ≡ false → g.past.round p ≤ g.past.round q) → ⊥
     stuck p b u l low =
         let n : ℕ = x.cards.count in
-        let s : SeatState = seat_in x.seats k p in
+        let s : Seat = seat_in x.seats k p in
         let t = g.stands p b in
         let runs : Runs (seen x).net p = record { card = b; up = u } in
         let undecided : is_some (ballot_in x.decisions k p) ≡ false =

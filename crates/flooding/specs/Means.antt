@@ -17,8 +17,9 @@ use Rattle.wire.proofs.Items.{all_nth, part_left, length_left}
 use Rattle.cards.proofs.Lists.{same_all, same_rows, row_written}
 use Rattle.cards.proofs.Nets.{same_cards, net_crashed, net_suspected, crash_more}
 use Rattle.wire.proofs.Taken.{carried_item, lost_item, senders_removed}
-use Rattle.flooding.specs.Seats.{SeatState, no_seat, new_seats, seat_in, entering}
-use Rattle.flooding.specs.Mail.{LoadState}
+use Rattle.flooding.specs.Seats.{no_seat, new_seats, seat_in, entering}
+use Rattle.flooding.specs.declared.seats.Seat.{Seat}
+use Rattle.flooding.specs.declared.mail.Load.{Load}
 use Rattle.flooding.specs.Flooding.{FloodingState, total, to_send, flooding_work, seen, new_flooding, enter_on, put_forward, propose_on, arrive_on, lose_on, carry_on, crash_on, doubt_on, suspect_on}
 use Rattle.flooding.specs.Made.{Underway}
 use Rattle.flooding.specs.Sound.{SettledFlooding}
@@ -33,7 +34,7 @@ total_none f (suc m) h = omega (arith, h m, total_none f m h)
 pub new_means : (n : ℕ) → Started n (seen (new_flooding n))
 new_means n =
     let c = new_cards n in
-    let none : (k p : ℕ) → to_send c (seat_in new_seats k p) p ≡ 0 = λ k p. cond-false _ _ _ (and_right (not (crashed_in c p)) _ (ap (λ (s : SeatState). ltb 0 s.round) (same_rows 32 6 k p no_seat))) in
+    let none : (k p : ℕ) → to_send c (seat_in new_seats k p) p ≡ 0 = λ k p. cond-false _ _ _ (and_right (not (crashed_in c p)) _ (ap (λ (s : Seat). ltb 0 s.round) (same_rows 32 6 k p no_seat))) in
     record {
       net = record {
         cards = refl;
@@ -87,7 +88,7 @@ propose_means x k p s g fits h =
       decided_more = decides_more x after p f.1 m.decided;
     }
 
-arrived_means : (x : FloodingState) (i : ℕ) (y : Item LoadState) → SettledFlooding x → slice_get x.wire i ≡ Some y → i < length x.wire → Carried (seen x) (seen (arrive_on (lose_on x i) y))
+arrived_means : (x : FloodingState) (i : ℕ) (y : Item Load) → SettledFlooding x → slice_get x.wire i ≡ Some y → i < length x.wire → Carried (seen x) (seen (arrive_on (lose_on x i) y))
 arrived_means x i y g e l =
     let u = all_nth (Underway x.cards) x.wire i y g.whole.items e in
     let placed : Placed (lose_on x i) y.to = record { seats_shaped = g.whole.seats_shaped; decisions_shaped = g.whole.decisions_shaped; few = g.whole.sound.few; card = u.receiver; up = u.up } in
@@ -120,7 +121,7 @@ pub lose_means : (x : FloodingState) (i : ℕ) → SettledFlooding x → lose_an
 lose_means x i g h = loss_is_lost x i h
 
 -- A crashed card sends no more.
-less_to_send : (c : CardState) (p q : ℕ) (s : SeatState) → SoundCards c → p < c.count → to_send (with_crash c p) s q ≤ to_send c s q
+less_to_send : (c : CardState) (p q : ℕ) (s : Seat) → SoundCards c → p < c.count → to_send (with_crash c p) s q ≤ to_send c s q
 less_to_send c p q s g h =
     ⊎_elim
     (λ e. let z : to_send (with_crash c p) s q ≡ 0 = cond-false _ _ _ (and_left _ (nat_lt 0 s.round) (not_from_true _ e)) in omega arith)
