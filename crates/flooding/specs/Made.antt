@@ -1,5 +1,5 @@
 -- What holds of every flooding that is made by `new` and the calls: in each instance its state is that of a history.
-use Rattle.std.specs.Prelude.{◌≡◌, ℕ, suc, ◌^◌, ◌<◌, ◌≤◌, Bool, true, false, cond, not, ◌&&◌, ◌⊎◌, List, [], length, is_some, Some, ◌==◌, ◌≢◌, nat_lt, slice_index_or}
+use Rattle.std.specs.Prelude.{◌≡◌, ℕ, suc, ◌^◌, ◌<◌, ◌≤◌, Bool, true, false, cond, not, ◌&&◌, ◌⊎◌, is_some, Some, ◌==◌, ◌≢◌, nat_lt}
 use Rattle.std.specs.List.{AllByRecursion}
 use Rattle.notes.specs.Sets.{has, low}
 use Rattle.cards.specs.Cards.{CardState, crashed_in, suspects_in, SoundCards}

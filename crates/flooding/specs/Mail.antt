@@ -1,8 +1,7 @@
 -- Lists of items: those under way, and those that are kept for a later round.
-use Rattle.std.specs.Prelude.{ℕ, Bool, cond, ◌&&◌, List, [], ◌∷◌, map, ◌==◌}
+use Rattle.std.specs.Prelude.{ℕ, Bool, cond, ◌&&◌, List, [], ◌∷◌, ◌==◌}
 use Rattle.cards.specs.Cards.{CardState}
 use Rattle.wire.specs.declared.Item.{Item}
-use Rattle.wire.specs.declared.Wire.{Wire}
 use Rattle.flooding.specs.Seats.{seat_in, hearing}
 use Rattle.flooding.specs.declared.seats.Seat.{Seat}
 use Rattle.flooding.specs.declared.mail.Load.{Load}

@@ -1,14 +1,12 @@
 -- A list of items, as one leaves it and as it is taken in.
-use Rattle.std.specs.Prelude.{◌≡◌, ℕ, zero, suc, ◌+◌, Bool, true, false, cond, List, [], ◌∷◌, ◌++◌, map, length, take, drop, bit_or, nat_lt, refl}
-use Rattle.std.proofs.Common.{sym, ap, ◌∙◌, ⊎_elim, arith}
+use Rattle.std.specs.Prelude.{◌≡◌, ℕ, ◌+◌, Bool, true, false, cond, List, [], ◌∷◌, ◌++◌, length, bit_or, nat_lt, refl}
+use Rattle.std.proofs.Common.{sym, ap, ◌∙◌, arith}
 use Rattle.std.specs.List.{remove}
-use Rattle.std.proofs.lemmas.List.{map-append, take-map, drop-map}
 use Rattle.std.proofs.lemmas.List.Edits.{length-remove}
-use Rattle.std.proofs.lemmas.Bool.{cases_Bool, cond-true, cond-false, ltb-true, ltb-false}
+use Rattle.std.proofs.lemmas.Bool.{ltb-true, ltb-false}
 use Rattle.wire.proofs.Wires.{removed_past}
 use Rattle.notes.specs.Sets.{added}
 use Rattle.cards.specs.Cards.{CardState, suspects_in}
-use Rattle.wire.specs.Wires.{item, senders, goes_to, sent, elsewhere, without_to}
 use Rattle.wire.specs.declared.Item.{Item}
 use Rattle.flooding.specs.Mail.{is_for, taking_one, taking_in}
 use Rattle.flooding.specs.declared.mail.Load.{Load}

@@ -1,5 +1,5 @@
 -- The seats: where each card stands in each instance. A set of cards is a number, card p in it where `has` says so.
-use Rattle.std.specs.Prelude.{ℕ, zero, suc, Bool, true, cond, ◌&&◌, ◌||◌, List, [], map, replicate, bit_or, nat_lt, slice_index_or, slice_set}
+use Rattle.std.specs.Prelude.{ℕ, zero, suc, Bool, true, cond, ◌&&◌, ◌||◌, List, [], replicate, bit_or, nat_lt, slice_index_or, slice_set}
 use Rattle.notes.specs.Sets.{has, added}
 use Rattle.cards.specs.Cards.{CardState, suspects_in}
 use Rattle.flooding.specs.declared.seats.Seat.{Seat}

@@ -1,6 +1,5 @@
 ghost use Rattle.std.specs.Prelude.{◌≡◌, ◌+◌, ◌≤◌, replicate};
 ghost use Rattle.flooding.specs.Mail.{telling};
-ghost use Rattle.flooding.specs.Room.{rounds_after, rounds_left};
 ghost use Rattle.flooding.specs.Seats.{no_seat, new_seats, seat_in, with_seat, entering, hearing, accounted_for, all_counted, ready};
 
 use super::{Place, Seat, Seats};
@@ -107,10 +106,8 @@ impl Seats {
     }
 
     // By index, since what `get_mut` lends of an array says nothing of the array afterwards.
-    #[tactic(auto, using(crate::proofs::Rooms::left_after))]
     pub(crate) fn put(&mut self, place: Place, seat: Seat)
-        ensures seats { self.new ≡ with_seat self.old place.instance place.card seat }
-        ensures rounds { rounds_left self.new + rounds_after (seat_in self.old place.instance place.card).round ≤ rounds_left self.old + rounds_after seat.round }
+        ensures { self.new ≡ with_seat self.old place.instance place.card seat }
     {
         if self
             .rows

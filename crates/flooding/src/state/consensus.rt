@@ -73,6 +73,7 @@ impl Consensus for Flooding {
       lawful = lawful;
     } };
 
+    #[tactic(auto, using(crate::proofs::Rooms::new_free, crate::proofs::Rooms::new_rounds))]
     fn new(heap: Global, count: usize) -> Result<Flooding, AllocError> {
         let wire = Wire::new(heap, ROOM)?;
         let kept = Wire::new(heap, ROOM)?;
@@ -86,6 +87,7 @@ impl Consensus for Flooding {
         })
     }
 
+    #[tactic(auto, using(crate::proofs::Rooms::rounds_first))]
     // A proposer knows itself and enters round 1.
     fn propose(&mut self, instance: usize, card: usize, notes: NoteSet) -> Result<(), Refusal> {
         self.proposals.propose(&self.cards, instance, card, notes)?;

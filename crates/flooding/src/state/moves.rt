@@ -14,6 +14,7 @@ use wire::Item;
 
 impl Flooding {
     // The card enters a round: it has counted only itself, sends what it knows, and only then takes in what was kept for the round.
+    #[tactic(auto, using(crate::proofs::Rooms::items_counted, crate::proofs::Rooms::left_after))]
     pub(super) fn enter(&mut self, place: Place, round: usize, known: NoteSet)
         requires { MayEnter self.old place.instance place.card round }
         ensures { self.new ≡ enter_on self.old place.instance place.card round known }
@@ -24,6 +25,7 @@ impl Flooding {
         self.take_in(place);
     }
 
+    #[tactic(auto, using(crate::proofs::Rooms::left_after))]
     fn take_in(&mut self, place: Place)
         ensures { self.new ≡ take_in_on self.old place.instance place.card }
     {
@@ -65,6 +67,7 @@ impl Flooding {
     }
 
     // From the last round the card decides, from any other it enters the next.
+    #[tactic(auto, using(crate::specs::Works::may_move_means, crate::proofs::Rooms::rounds_step))]
     fn move_on(&mut self, place: Place)
         requires { may_move self.old place.instance place.card ≡ true }
         ensures { self.new ≡ move_on self.old place.instance place.card }
@@ -106,6 +109,7 @@ impl Flooding {
     }
 
     // An item has come, off a wire that it leaves room on.
+    #[tactic(auto, using(crate::proofs::Rooms::items_counted, crate::proofs::Rooms::left_after))]
     pub(super) fn arrive(&mut self, item: Item<Load>)
         requires { MayKeep self.old }
         ensures { self.new ≡ arrive_on self.old item }
