@@ -1,10 +1,6 @@
--- A list of items, as one leaves it and as it is taken in.
-use Rattle.std.specs.Prelude.{◌≡◌, ℕ, ◌+◌, Bool, true, false, cond, List, [], ◌∷◌, ◌++◌, length, bit_or, nat_lt, refl}
-use Rattle.std.proofs.Common.{sym, ap, ◌∙◌, arith}
-use Rattle.std.specs.List.{remove}
-use Rattle.std.proofs.lemmas.List.Edits.{length-remove}
-use Rattle.std.proofs.lemmas.Bool.{ltb-true, ltb-false}
-use Rattle.wire.proofs.Wires.{removed_past}
+-- Taking in one item more, and the rounds that hearing and taking in leave.
+use Rattle.std.specs.Prelude.{◌≡◌, ℕ, ◌+◌, Bool, true, false, cond, List, [], ◌∷◌, ◌++◌, bit_or, refl}
+use Rattle.std.proofs.Common.{◌∙◌}
 use Rattle.notes.specs.Sets.{added}
 use Rattle.cards.specs.Cards.{CardState, suspects_in}
 use Rattle.wire.specs.declared.Item.{Item}
@@ -12,10 +8,6 @@ use Rattle.flooding.specs.Mail.{is_for, taking_one, taking_in}
 use Rattle.flooding.specs.declared.mail.Load.{Load}
 use Rattle.flooding.specs.Seats.{hearing}
 use Rattle.flooding.specs.declared.seats.Seat.{Seat}
-
-pub removed_length : {X : Type 0} (xs : List X) (i : ℕ) (b : Bool) → b ≡ nat_lt i (length xs) → length (remove xs i) + cond b 1 0 ≡ length xs
-removed_length xs i true e = length-remove xs i (ltb-true i (length xs) (sym e))
-removed_length xs i false e = let l = ap length (removed_past xs i (ltb-false i (length xs) (sym e))) in omega arith
 
 -- One item more is taken in.
 pub taking_more : (c : CardState) (k q : ℕ) (s : Seat) (xs : List (Item Load)) (y : Item Load) → taking_in c k q s (xs ++ (y ∷ [])) ≡ taking_one c k q (taking_in c k q s xs) y
