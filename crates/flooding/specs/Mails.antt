@@ -1,5 +1,5 @@
 -- Taking in one item more, and the rounds that hearing and taking in leave.
-use Rattle.std.specs.Prelude.{◌≡◌, ℕ, ◌+◌, Bool, true, false, cond, List, [], ◌∷◌, ◌++◌, bit_or, refl}
+use Rattle.std.specs.Prelude.{◌≡◌, ℕ, Bool, true, false, cond, List, [], ◌∷◌, ◌++◌, bit_or, refl}
 use Rattle.std.proofs.Common.{◌∙◌}
 use Rattle.notes.specs.Sets.{added}
 use Rattle.cards.specs.Cards.{CardState, suspects_in}

@@ -1,5 +1,5 @@
 -- What `new` and each call make of a flooding is what the interface says.
-use Rattle.std.specs.Prelude.{◌≡◌, ℕ, zero, suc, ◌+◌, ◌-◌, ◌*◌, ◌^◌, ◌<◌, ◌≤◌, false, cond, not, ◌&&◌, ltb, length, Some, None, nat_lt, refl, Ok}
+use Rattle.std.specs.Prelude.{◌≡◌, ℕ, zero, suc, ◌+◌, ◌-◌, ◌*◌, ◌^◌, ◌<◌, ◌≤◌, false, cond, not, ◌&&◌, ◌==◌, ltb, length, Some, None, nat_lt, refl, Ok}
 use Rattle.std.proofs.Common.{sym, ap, subst, ◌∙◌, ⊎_elim, mul-le-mul, arith}
 use Rattle.std.specs.List.{slice_get}
 use Rattle.std.proofs.lemmas.List.Edits.{length-remove}
@@ -126,7 +126,7 @@ less_to_send c p q s g h =
     ⊎_elim
     (λ e. let z : to_send (with_crash c p) s q ≡ 0 = cond-false _ _ _ (and_left _ (nat_lt 0 s.round) (not_from_true _ e)) in omega arith)
     (λ e.
-    let b = or_parts _ _ (sym (crash_more c p q g h) ∙ e) in
+    let b : ((q == p) ≡ false) × (crashed_in c q ≡ false) = or_parts _ _ (sym (crash_more c p q g h) ∙ e) in
     let z : to_send (with_crash c p) s q ≡ to_send c s q = ap (λ d. cond (not d && nat_lt 0 s.round) ((c.count - 1) * (c.count - s.round)) 0) (e ∙ sym b.1) in
     omega arith)
     (cases_Bool (crashed_in (with_crash c p) q))
