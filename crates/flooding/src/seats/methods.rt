@@ -12,8 +12,7 @@ use wire::Item;
 impl Seat {
     // A card enters a round: it has counted only itself.
     pub(crate) fn enter(card: usize, round: usize, known: NoteSet) -> Seat
-        ensures seat { result ≡ entering card round known }
-        ensures round { result.round ≡ round }
+        ensures { result ≡ entering card round known }
     {
         Seat {
             round,
@@ -83,8 +82,7 @@ impl Seats {
     }
 
     pub(crate) fn of(&self, place: Place) -> Seat
-        ensures seat { result ≡ seat_in self.now place.instance place.card }
-        ensures round { result.round ≡ (seat_in self.now place.instance place.card).round }
+        ensures { result ≡ seat_in self.now place.instance place.card }
     {
         self.rows
             .get(place.instance)
