@@ -16,8 +16,7 @@ pub struct Load {
 
 // The card takes in what is kept for its round.
 pub(crate) fn take_in(kept: &Wire<Load>, cards: &Cards, place: Place, seat: Seat) -> Seat
-    ensures seat { result ≡ taking_in cards.now place.instance place.card seat kept.now.items }
-    ensures round { result.round ≡ seat.round }
+    ensures { result ≡ taking_in cards.now place.instance place.card seat kept.now.items }
 {
     kept.iter().fold(seat, |taken, item| take_in_one(cards, place, taken, *item))
 }

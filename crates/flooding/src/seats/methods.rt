@@ -34,8 +34,7 @@ impl Seat {
 
     // The card that an item is for counts its sender and takes over what that one knows, unless it suspects it.
     pub(crate) fn hear(self, cards: &Cards, item: Item<Load>) -> Seat
-        ensures seat { result ≡ hearing cards.now item.to item.from item.load.known self }
-        ensures round { result.round ≡ self.round }
+        ensures { result ≡ hearing cards.now item.to item.from item.load.known self }
     {
         if cards.suspects(item.to, item.from) {
             return self;

@@ -25,7 +25,7 @@ impl Flooding {
         self.take_in(place);
     }
 
-    #[tactic(auto, using(crate::proofs::Rooms::left_after))]
+    #[tactic(auto, using(crate::proofs::Rooms::left_after, crate::specs::Mails::taking_round))]
     fn take_in(&mut self, place: Place)
         ensures { self.new ≡ take_in_on self.old place.instance place.card }
     {
@@ -109,7 +109,7 @@ impl Flooding {
     }
 
     // An item has come, off a wire that it leaves room on.
-    #[tactic(auto, using(crate::proofs::Rooms::items_counted, crate::proofs::Rooms::left_after))]
+    #[tactic(auto, using(crate::proofs::Rooms::items_counted, crate::proofs::Rooms::left_after, crate::specs::Mails::hearing_round))]
     pub(super) fn arrive(&mut self, item: Item<Load>)
         requires { MayKeep self.old }
         ensures { self.new ≡ arrive_on self.old item }

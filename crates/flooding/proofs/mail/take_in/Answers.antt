@@ -1,10 +1,9 @@
-use Rattle.std.proofs.Common.{◌≡◌, rules, ap, ◌∙◌, refl}
+use Rattle.std.proofs.Common.{◌≡◌, rules, refl}
 use Rattle.std.proofs.lemmas.Fn.{fold_over}
 use Rattle.std.proofs.lemmas.Iterator.Consumers.{YieldsList-from_deque}
 use Rattle.std.specs.VecDeque.Iter.{deque_iter_steps}
 use Rattle.flooding.specs.Mail.{taking_in}
-use Rattle.flooding.specs.Mails.{taking_more, taking_round}
-use Rattle.flooding.specs.declared.seats.Seat.{Seat}
+use Rattle.flooding.specs.Mails.{taking_more}
 use Rattle.flooding.proofs.mail.take_in.Goals as goal
 
 pub returns : goal.returns
@@ -14,11 +13,6 @@ returns c =
     let q = c.args.place.card in
     let s = c.args.seat in
     let items = c.args.kept.now.items in
-    let e : c.fold.result ≡ taking_in cards k q s items =
     fold_over deque_iter_steps (λ y. y.now) _ (λ ys a. a ≡ taking_in cards k q s ys) _
     (λ ys a x b f' j h. let n = taking_more cards k q s ys x.now in search rules)
-    c.iter.result items _ _ (YieldsList-from_deque {s = c.iter.result} items c.iter.ensures).runs refl c.fold.ensures.ran in
-    record {
-      seat = e;
-      round = ap (λ (z : Seat). z.round) e ∙ taking_round cards k q s items;
-    }
+    c.iter.result items _ _ (YieldsList-from_deque {s = c.iter.result} items c.iter.ensures).runs refl c.fold.ensures.ran
