@@ -1,7 +1,6 @@
 -- The rounds that are left, as a seat is changed.
 use Rattle.std.proofs.Common.{◌≡◌, ℕ, zero, suc, ◌+◌, ◌<◌, ◌≤◌, List, [], ◌∷◌, get_or, set, refl, arith}
 use Rattle.std.proofs.lemmas.Bool.Decides.{nat_tests}
-use Rattle.tables.specs.Tables.{new_ballots, free_ballots}
 use Rattle.std.proofs.lemmas.List.{length-append}
 use Rattle.wire.proofs.Wires.{length_sent_others}
 use Rattle.flooding.specs.Seats.{no_seat, new_seats, seat_in, with_seat}
@@ -35,6 +34,3 @@ rounds_first = refl
 pub new_rounds : rounds_left new_seats ≡ 0
 unfolding rounds_left rounds_after
 new_rounds = refl
-
-pub new_free : free_ballots new_ballots ≡ 192
-new_free = refl

@@ -15,6 +15,7 @@ pub struct Load {
 }
 
 // The card takes in what is kept for its round.
+// A place goes beside its seat here and in `Seats`: a table finds the seat by the place, so a struct of both would be taken apart in every call.
 pub(crate) fn take_in(kept: &Wire<Load>, cards: &Cards, place: Place, seat: Seat) -> Seat
     ensures { result ≡ taking_in cards.now place.instance place.card seat kept.now.items }
 {

@@ -73,7 +73,7 @@ impl Consensus for Flooding {
       lawful = lawful;
     } };
 
-    #[tactic(auto, using(crate::proofs::Rooms::new_free, crate::proofs::Rooms::new_rounds))]
+    #[tactic(auto, using(crate::proofs::Rooms::new_rounds))]
     fn new(heap: Global, count: usize) -> Result<Flooding, AllocError> {
         let wire = Wire::new(heap, ROOM)?;
         let kept = Wire::new(heap, ROOM)?;
@@ -87,8 +87,9 @@ impl Consensus for Flooding {
         })
     }
 
-    #[tactic(auto, using(crate::proofs::Rooms::rounds_first))]
+    // Instance, card and notes come one by one, as the interface and the table of proposals say them; from here on the first two are a place.
     // A proposer knows itself and enters round 1.
+    #[tactic(auto, using(crate::proofs::Rooms::rounds_first))]
     fn propose(&mut self, instance: usize, card: usize, notes: NoteSet) -> Result<(), Refusal> {
         self.proposals.propose(&self.cards, instance, card, notes)?;
         let place = Place { instance, card };

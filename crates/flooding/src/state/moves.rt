@@ -67,7 +67,7 @@ impl Flooding {
     }
 
     // From the last round the card decides, from any other it enters the next.
-    #[tactic(auto, using(crate::specs::Works::may_move_means, crate::proofs::Rooms::rounds_step))]
+    #[tactic(auto, using(crate::proofs::Rooms::rounds_step))]
     fn move_on(&mut self, place: Place)
         requires { may_move self.old place.instance place.card ≡ true }
         ensures { self.new ≡ move_on self.old place.instance place.card }
@@ -109,7 +109,7 @@ impl Flooding {
     }
 
     // An item has come, off a wire that it leaves room on.
-    #[tactic(auto, using(crate::proofs::Rooms::items_counted, crate::proofs::Rooms::left_after, crate::specs::Mails::hearing_round))]
+    #[tactic(auto, using(crate::proofs::Rooms::left_after))]
     pub(super) fn arrive(&mut self, item: Item<Load>)
         requires { MayKeep self.old }
         ensures { self.new ≡ arrive_on self.old item }
