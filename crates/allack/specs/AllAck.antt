@@ -5,21 +5,17 @@ use Rattle.notes.specs.Sets.{minus}
 use Rattle.parts.specs.Views.{BroadcastView}
 use Rattle.parts.specs.Broadcasting.{broadcast_view}
 use Rattle.cards.specs.Cards.{suspects_in}
-use Rattle.tables.specs.Tables.{card_sets_of, set_in, with_notes}
+use Rattle.tables.specs.Tables.{set_in, with_notes}
 use Rattle.wire.specs.declared.Item.{Item}
 use Rattle.spread.specs.Seen.{spread_cards, spread_crashed, spread_suspects, spread_wire, spread_poster}
 use Rattle.spread.specs.Spread as spread
-use Rattle.spread.specs.Spread.{SpreadState, spread_of, spread_work}
-use Rattle.allack.specs.Counts.{counts_of, new_counts, counted_in, with_count}
-use Rattle.allack.specs.declared.state.AllAck.{AllAck}
+use Rattle.spread.specs.Spread.{SpreadState, spread_work}
+use Rattle.allack.specs.Counts.{new_counts, counted_in, with_count}
 
 pub record AllAckState : Type 0 where
   pub spread : SpreadState
   pub counted : List (List ℕ)
   pub handed : List ℕ
-
-abbrev pub all_ack_of : AllAck → AllAckState
-all_ack_of a = record { spread = spread_of a.spread; counted = counts_of a.counted; handed = card_sets_of a.handed }
 
 -- What is seen.
 

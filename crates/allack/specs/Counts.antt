@@ -1,11 +1,6 @@
 -- Whom each card has counted as a relayer, and of which notes.
-use Rattle.std.specs.Prelude.{ℕ, List, [], map, replicate, slice_index, slice_index_or, slice_set}
+use Rattle.std.specs.Prelude.{ℕ, List, [], replicate, slice_index, slice_index_or, slice_set}
 use Rattle.notes.specs.Sets.{added}
-use Rattle.tables.specs.Tables.{card_sets_of}
-use Rattle.allack.specs.declared.counts.Counts.{Counts}
-
-abbrev pub counts_of : Counts → List (List ℕ)
-counts_of t = map card_sets_of t.rows
 
 abbrev pub new_counts : List (List ℕ)
 new_counts = replicate 6 (replicate 6 0)

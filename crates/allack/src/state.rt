@@ -1,5 +1,6 @@
 use crate::counts::Counts;
 use spread::state::Spread;
+use std::marker::Model;
 use tables::card_sets::CardSets;
 
 pub mod broadcast;
@@ -11,4 +12,12 @@ pub struct AllAck {
     spread: Spread,
     counted: Counts,
     handed: CardSets,
+}
+
+impl Model for AllAck {
+    ghost use Rattle.allack.specs.AllAck.{AllAckState};
+
+    ghost Value = { AllAckState };
+
+    ghost view = { λ a. record { spread = a.spread; counted = a.counted; handed = a.handed } };
 }

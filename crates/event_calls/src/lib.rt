@@ -9,7 +9,7 @@ use std::alloc::{AllocError, Global};
 use total_order::call::Call;
 
 // The call that an event makes. Neither type is of this crate, so it can be no `From`; and they are two types, since an event holds only what a file can
-// say, while a carrier is called with any number.
+// say, while a carrier is called with any number. Each kind of event is another kind of call.
 pub fn call_of(event: Event) -> Call
     ensures { result ≡ call_of event }
 {

@@ -1,5 +1,4 @@
 ghost use Rattle.std.specs.Prelude.{◌≡◌, ℕ, ◌-◌, ◌<◌, ◌≤◌, true, [], length, IfSome, MatchOption};
-ghost use Rattle.notes.specs.Models.{bits};
 ghost use Rattle.notes.specs.Sets.{has};
 ghost use Rattle.parts.specs.Shown.{shown};
 ghost use Rattle.parts.specs.Views.{Quiet, Runs};
@@ -40,12 +39,11 @@ pub fn carry_all_proposals<C: Consensus>(consensus: &mut C, limit: usize)
 
 // The set of a running card, where the broadcast is quiet: it then holds every note that was handed to any card, crashed or not.
 pub fn complete_set<U: Uniform>(broadcast: &U, card: usize) -> Option<NoteSet>
-    ensures value { MatchOption result (Quiet (shown U.Broadcast (U.Broadcast.state broadcast.now)).net → Runs (shown U.Broadcast (U.Broadcast.state broadcast.now)).net card → ⊥) (λ s. bits s ≡ U.Broadcast.handed (U.Broadcast.state broadcast.now) card) }
-    ensures complete { U.Broadcast.made (U.Broadcast.state broadcast.now) → IfSome result (λ s. (p m : ℕ) → has (U.Broadcast.handed (U.Broadcast.state broadcast.now) p) m ≡ true → has (bits s) m ≡ true) }
+    ensures value { MatchOption result (Quiet (shown U.Broadcast (U.Broadcast.state broadcast.now)).net → Runs (shown U.Broadcast (U.Broadcast.state broadcast.now)).net card → ⊥) (λ s. s ≡ U.Broadcast.handed (U.Broadcast.state broadcast.now) card) }
+    ensures complete { U.Broadcast.made (U.Broadcast.state broadcast.now) → IfSome result (λ s. (p m : ℕ) → has (U.Broadcast.handed (U.Broadcast.state broadcast.now) p) m ≡ true → has s m ≡ true) }
 {
-    if card < broadcast.card_count() && !broadcast.has_crashed(card) && broadcast.is_quiet() {
-        Some(broadcast.handed_to(card))
-    } else {
-        None
-    }
+    let complete = card < broadcast.card_count()
+        && !broadcast.has_crashed(card)
+        && broadcast.is_quiet();
+    complete.then_some(broadcast.handed_to(card))
 }

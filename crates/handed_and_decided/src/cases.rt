@@ -1,6 +1,4 @@
 ghost use Rattle.std.specs.Prelude.{◌≡◌, Err, IfOk, Some, None};
-ghost use Rattle.std.specs.Option.{option_map};
-ghost use Rattle.notes.specs.Models.{bits};
 ghost use Rattle.parts.specs.declared.refusal.Refusal.TheVariants.{SenderNotCrashed};
 
 use board::state::Board;
@@ -15,7 +13,7 @@ use std::alloc::{AllocError, Global};
 
 // A note reaches the card whose item is carried, and no other.
 pub fn one_carried_item(heap: Global) -> Result<(NoteSet, NoteSet), AllocError>
-    ensures { IfOk result (λ x. (bits x.0 ≡ 0) × (bits x.1 ≡ 8)) }
+    ensures { IfOk result (λ x. (x.0 ≡ 0) × (x.1 ≡ 8)) }
 {
     let mut board: Board = Board::new(heap, 2)?;
     let _ = board.post(0, 3);
@@ -37,7 +35,7 @@ pub fn posted_item_is_not_lost(heap: Global) -> Result<Result<(), Refusal>, Allo
 pub fn first_carried_is_decided(
     heap: Global,
 ) -> Result<(Option<NoteSet>, Option<NoteSet>), AllocError>
-    ensures { IfOk result (λ x. (option_map bits x.0 ≡ None) × (option_map bits x.1 ≡ Some 2)) }
+    ensures { IfOk result (λ x. (x.0 ≡ None) × (x.1 ≡ Some 2)) }
 {
     let mut register: Register = Register::new(heap, 2)?;
     let _ = register.propose(5, 0, NoteSet::from_bits(2));

@@ -1,24 +1,19 @@
 -- What the types of this crate stand for.
-use Rattle.std.specs.Prelude.{List, vec_items}
+use Rattle.std.specs.Prelude.{List}
 use Rattle.parts.specs.Views.{BroadcastView}
 use Rattle.parts.specs.Shown.{shown}
 use Rattle.parts.specs.declared.broadcast.Broadcast.{Ghosts as Broadcasts}
 use Rattle.inturn.specs.declared.post.Post.{Post}
-use Rattle.inturn.specs.declared.table.Table.{Table}
 use Rattle.inturn.specs.declared.layer.InTurn.{InTurn}
 use Rattle.inturn.specs.Layers.{Layered, layered, shown_in_turn, MadeInTurn}
 
--- A table stands for its posts, the earliest first.
-abbrev pub posts_of : Table → List Post
-posts_of t = vec_items t.posts
-
 -- A layer stands for the state below and its table.
 abbrev pub layer_of : {X S : Type 0} → (X → S) → InTurn X → Layered S
-layer_of state t = layered (state t.lower) (posts_of t.table)
+layer_of state t = layered (state t.lower) t.table
 
 -- The accepted posts of a layer, the earliest first.
 abbrev pub posted_in : {X : Type 0} → InTurn X → List Post
-posted_in t = posts_of t.table
+posted_in t = t.table
 
 module _ {X : Type 0} (b : Broadcasts X) where
   -- Made by `new` and the calls.

@@ -6,17 +6,12 @@ ghost use Rattle.inturn.specs.Calls.{behaviour, in_turn_over, AsBelow, TwiceAsOn
 ghost use Rattle.inturn.specs.Means.{means_in_turn};
 ghost use Rattle.parts.specs.Broadcasting.{broadcast_view};
 
-use self::facts::{
-    agreement_carries_over, all_is_as_below, notes_count_in_order, two_layers_are_one,
-};
 use crate::table::Table;
 use notes::set::NoteSet;
 use parts::broadcast::Broadcast;
 use parts::refusal::Refusal;
 use parts::uniform::Uniform;
 use std::alloc::{AllocError, Global};
-
-mod facts;
 
 // A layer over a broadcast: a note counts as handed when it and all earlier posts of its poster are handed below.
 #[derive(Drop)]
@@ -28,6 +23,7 @@ pub struct InTurn<B: Broadcast> {
 impl<B: Broadcast> Broadcast for InTurn<B> {
     ghost State = { Layered B.Broadcast.State };
 
+    // No Model of `InTurn`, since its `Value` could not be made of `B.Broadcast.State`.
     ghost state = { layer_of B.Broadcast.state };
 
     ghost cards = { λ s. B.Broadcast.cards s.below };
@@ -134,9 +130,7 @@ impl<B: Broadcast> Broadcast for InTurn<B> {
 
 impl<B: Uniform> Uniform for InTurn<B> {
     fn is_quiet(&self) -> bool {
-        let quiet = self.lower.is_quiet();
-        agreement_carries_over(self, quiet);
-        quiet
+        self.lower.is_quiet()
     }
 }
 
@@ -147,9 +141,7 @@ impl<B: Broadcast> InTurn<B> {
         ensures rule { Made B.Broadcast self.now → Decides result (HeldInTurn (posted_in self.now) ((view_below B.Broadcast self.now).handed card) note) }
         ensures order { Made B.Broadcast self.now → InOrder (posted_in self.now) (view_in_turn B.Broadcast self.now).handed }
     {
-        let counts = self.handed_to(card).contains(note);
-        notes_count_in_order(self, card, note, counts);
-        counts
+        self.handed_to(card).contains(note)
     }
 
     // Takes the layer off. But for the handed sets, all was as in the broadcast below.
@@ -157,7 +149,6 @@ impl<B: Broadcast> InTurn<B> {
         ensures lower { B.Broadcast.state result ≡ (layer_of B.Broadcast.state self).below }
         ensures as_below { AsBelow (behaviour B.Broadcast) }
     {
-        all_is_as_below::<B>();
         let InTurn { lower, table: _ } = self;
         lower
     }
@@ -169,7 +160,6 @@ impl<B: Broadcast> InTurn<InTurn<B>> {
         ensures inner { layer_of B.Broadcast.state result ≡ (layer_of (layer_of B.Broadcast.state) self).below }
         ensures as_once { TwiceAsOnce (behaviour B.Broadcast) }
     {
-        two_layers_are_one::<B>();
         self.into_lower()
     }
 }

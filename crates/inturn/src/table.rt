@@ -1,6 +1,8 @@
-ghost use Rattle.std.specs.Prelude.{◌≤◌, vec_capacity};
+ghost use Rattle.std.specs.Prelude.{◌≤◌, List, vec_items, vec_capacity};
+ghost use Rattle.inturn.specs.declared.post.Post.{Post};
 
 use crate::post::Post;
+use std::marker::Model;
 
 pub(crate) mod methods;
 
@@ -8,5 +10,13 @@ pub(crate) mod methods;
 #[derive(Drop)]
 pub(crate) struct Table {
     posts: Vec<Post>,
-    ghost room: { 32 ≤ vec_capacity posts },
+}
+
+// Contracts read the posts.
+impl Model for Table {
+    ghost Value = { List Post };
+
+    ghost view = { λ t. vec_items t.posts };
+
+    ghost invariant = { λ t. 32 ≤ vec_capacity t.posts };
 }

@@ -75,6 +75,7 @@ fn a_crashed_card_keeps_what_counted(rt: HostRuntime) -> Result<(), Fail> {
 #[test]
 fn all_32_notes_are_taken(rt: HostRuntime) -> Result<(), Fail> {
     let mut layer = two_cards(rt.alloc())?;
+    // Notes and items are numbers: there is no list to go over.
     for note in 0..32 {
         layer.post(1, note)?;
     }

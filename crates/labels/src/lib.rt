@@ -8,6 +8,7 @@ ghost use Rattle.labels.specs.Order.{is_label, printable, label_before};
 ghost use Rattle.labels.specs.Order.{label_of};
 
 // One to eight bytes of 32 to 126, and their place in the caller's text. Only `new` makes one.
+// No `impl Model`: what is `Copy` and borrows cannot have one yet.
 #[derive(Clone, Copy, Debug)]
 pub struct Label<'a> {
     text: &'a [u8],

@@ -1,7 +1,7 @@
 // A kind of note says which note may stand before which.
 ghost use Rattle.std.specs.Prelude.{◌≡◌, Bool, true, ◌||◌};
 
-// Two notes that may stand in either order count as equal.
+// Two notes that may stand in either order count as equal. Not `Ord`: that would ask a kind for an equality besides, which the ranking does not need.
 pub trait Kind: Sized {
     // Whether the first note may stand before the second.
     ghost precedes: { Self → Self → Bool };

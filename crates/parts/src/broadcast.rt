@@ -51,6 +51,7 @@ pub trait Broadcast: Sized {
 
     ghost suspecting: { State → ℕ → ℕ → State };
 
+    // A call takes the numbers that the rules name: a struct of them would be made for the one call.
     fn new(heap: Global, count: usize) -> Result<Self, AllocError>
         ensures { IfOk result (λ x. state x ≡ start count) };
 
@@ -77,6 +78,7 @@ pub trait Broadcast: Sized {
     fn bound() -> u32
         ensures { result ≡ bound };
 
+    // The readers have no default bodies: a part of any make keeps its cards and its wire in its own way.
     fn card_count(&self) -> usize
         ensures { result ≡ cards (state self.now) };
 

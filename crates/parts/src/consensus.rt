@@ -53,6 +53,7 @@ pub trait Consensus: Sized {
 
     ghost suspecting: { State → ℕ → ℕ → State };
 
+    // A call takes the numbers that the rules name: a struct of them would be made for the one call.
     fn new(heap: Global, count: usize) -> Result<Self, AllocError>
         ensures { IfOk result (λ x. state x ≡ start count) };
 
@@ -79,6 +80,7 @@ pub trait Consensus: Sized {
     fn bound() -> u32
         ensures { result ≡ bound };
 
+    // The readers have no default bodies: a part of any make keeps its cards and its wire in its own way.
     fn card_count(&self) -> usize
         ensures { result ≡ cards (state self.now) };
 

@@ -4,10 +4,9 @@ use Rattle.std.proofs.Common.{sym, ap, ◌∙◌, inl, inr, ⊎_elim, arith, len
 use borrow.Author.Tests.{clash}
 use Rattle.std.proofs.lemmas.List.{get_or_past}
 use Rattle.std.proofs.lemmas.Bool.{cases_Bool, cases_lt, cond-true, cond-false, cond_both, and_parts, eqb-true}
-use Rattle.tables.specs.Tables.{ballot_in, with_ballot}
+use Rattle.tables.specs.Tables.{Shaped, ballot_in, with_ballot}
 use Rattle.cards.proofs.Lists.{written, row_written, rows_kept}
 use Rattle.register.specs.Held.{held_in, filled}
-use Rattle.register.specs.Made.{Shaped}
 
 -- A place that may have been written.
 

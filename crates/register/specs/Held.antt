@@ -1,11 +1,5 @@
 -- The register of each instance.
-use Rattle.std.specs.Prelude.{ℕ, cond, List, map, is_some, None, Option, slice_index_or, slice_set}
-use Rattle.std.specs.Option.{option_map}
-use Rattle.notes.specs.Models.{bits}
-use Rattle.register.specs.declared.held.Held.{Held}
-
-abbrev pub held_of : Held → List (Option ℕ)
-held_of t = map (option_map bits) t.sets
+use Rattle.std.specs.Prelude.{ℕ, cond, List, is_some, None, Option, slice_index_or, slice_set}
 
 abbrev pub held_in : List (Option ℕ) → ℕ → Option ℕ
 held_in t k = slice_index_or t k None

@@ -9,7 +9,7 @@ use Rattle.parts.specs.Refusals.{propose_answer, carry_answer, lose_answer, cras
 use Rattle.parts.proofs.Accepted.{propose_accepted, crash_accepted, suspect_accepted}
 use Rattle.parts.proofs.Options.{some_held}
 use Rattle.cards.specs.Cards.{CardState, crashed_in, with_crash, with_suspicion}
-use Rattle.tables.specs.Tables.{new_ballots, ballot_in, with_ballot}
+use Rattle.tables.specs.Tables.{Shaped, Shaped, new_ballots, ballot_in, with_ballot}
 use Rattle.wire.specs.Wires.{item, any_of}
 use Rattle.wire.specs.declared.Item.{Item}
 use Rattle.wire.proofs.Items.{all_removed, all_nth, any_append, any_split}
@@ -18,7 +18,7 @@ use Rattle.cards.proofs.Nets.{new_sound, crash_sound, crash_more, suspect_sound}
 use Rattle.wire.proofs.Taken.{carried_item, lost_item}
 use Rattle.register.specs.Held.{held_in}
 use Rattle.register.specs.Register.{RegisterState, seen, new_register, propose_on, carry_on, fill_by, decide_by, lose_on, crash_on, suspect_on}
-use Rattle.register.specs.Made.{Underway, brings, Shaped, MadeRegister}
+use Rattle.register.specs.Made.{Underway, brings, MadeRegister}
 use Rattle.register.specs.Changes.{some_or, which, same_place, ballot_written, shaped_after, instance_below, filled_length, filled_stays, filled_holds, filled_from}
 
 new_shaped : Shaped new_ballots

@@ -1,8 +1,8 @@
 -- What holds of every register that is made by `new` and the calls.
-use Rattle.std.specs.Prelude.{◌≡◌, ℕ, ◌^◌, ◌<◌, Bool, true, false, ◌&&◌, ◌||◌, List, [], length, is_some, Some, Option, ◌==◌, slice_index_or}
+use Rattle.std.specs.Prelude.{◌≡◌, ℕ, ◌^◌, ◌<◌, Bool, true, false, ◌&&◌, ◌||◌, List, length, is_some, Some, Option, ◌==◌}
 use Rattle.std.specs.List.{AllByRecursion}
 use Rattle.cards.specs.Cards.{CardState, crashed_in, SoundCards}
-use Rattle.tables.specs.Tables.{ballot_in}
+use Rattle.tables.specs.Tables.{Shaped, ballot_in}
 use Rattle.wire.specs.Wires.{any_of}
 use Rattle.wire.specs.declared.Item.{Item}
 use Rattle.register.specs.Held.{held_in}
@@ -16,10 +16,6 @@ pub record Underway (c : CardState) (proposals : List (List (Option ℕ))) (y : 
 -- Whether an item is card p's in instance k.
 abbrev pub brings : ℕ → ℕ → Item ℕ → Bool
 brings k p y = y.load == k && y.from == p
-
-pub record Shaped (t : List (List (Option ℕ))) : Type 0 where
-  pub instances : length t ≡ 32
-  pub row : (k : ℕ) → k < 32 → length (slice_index_or t k []) ≡ 6
 
 pub record MadeRegister (x : RegisterState) : Type 0 where
   pub sound : SoundCards x.cards

@@ -3,12 +3,11 @@ use Rattle.std.specs.Prelude.{ℕ, Bool, cond, List, [], ◌∷◌, ◌++◌, le
 use Rattle.std.specs.List.{slice_get, remove}
 use Rattle.parts.specs.Views.{ConsensusView}
 use Rattle.parts.specs.Deciding.{consensus_view}
-use Rattle.cards.specs.Cards.{CardState, cards_of, crashed_in, suspects_in, new_cards, with_crash, with_suspicion}
-use Rattle.tables.specs.Tables.{ballots_of, new_ballots, ballot_in, with_ballot}
-use Rattle.wire.specs.Wires.{items_of, senders, item}
+use Rattle.cards.specs.Cards.{CardState, crashed_in, suspects_in, new_cards, with_crash, with_suspicion}
+use Rattle.tables.specs.Tables.{new_ballots, ballot_in, with_ballot}
+use Rattle.wire.specs.Wires.{senders, item}
 use Rattle.wire.specs.declared.Item.{Item}
-use Rattle.register.specs.Held.{held_of, held_in, filled}
-use Rattle.register.specs.declared.state.Register.{Register}
+use Rattle.register.specs.Held.{held_in, filled}
 
 -- An item's load is the instance in which its sender proposed.
 pub record RegisterState : Type 0 where
@@ -17,9 +16,6 @@ pub record RegisterState : Type 0 where
   pub decisions : List (List (Option ℕ))
   pub held : List (Option ℕ)
   pub wire : List (Item ℕ)
-
-abbrev pub register_of : Register → RegisterState
-register_of r = record { cards = cards_of r.cards; proposals = ballots_of r.proposals; decisions = ballots_of r.decisions; held = held_of r.held; wire = items_of r.wire }
 
 -- What is seen.
 

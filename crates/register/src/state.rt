@@ -1,9 +1,6 @@
-ghost use Rattle.std.specs.Prelude.{◌+◌, ◌≤◌, length};
-ghost use Rattle.tables.specs.Tables.{ballots_of, free_ballots};
-ghost use Rattle.wire.specs.Wires.{items_of, room_of};
-
 use crate::held::Held;
 use cards::Cards;
+use std::marker::Model;
 use tables::ballots::Ballots;
 use wire::Wire;
 
@@ -18,6 +15,17 @@ pub struct Register {
     decisions: Ballots,
     held: Held,
     wire: Wire<usize>,
+}
+
+impl Model for Register {
+    ghost use Rattle.std.specs.Prelude.{◌+◌, ◌≤◌, length};
+    ghost use Rattle.tables.specs.Tables.{free_ballots};
+    ghost use Rattle.register.specs.Register.{RegisterState};
+
+    ghost Value = { RegisterState };
+
+    ghost view = { λ r. record { cards = r.cards; proposals = r.proposals; decisions = r.decisions; held = r.held; wire = r.wire.items } };
+
     // There is room for the item of every proposal to come.
-    ghost room: { length (items_of wire) + free_ballots (ballots_of proposals) ≤ room_of wire },
+    ghost invariant = { λ r. length r.wire.items + free_ballots r.proposals ≤ r.wire.room };
 }

@@ -4,12 +4,8 @@ use Rattle.std.specs.Prelude.{ℕ}
 use Rattle.parts.specs.Views.{BroadcastView}
 use Rattle.parts.specs.Broadcasting.{broadcast_view}
 use Rattle.tables.specs.Tables.{set_in}
-use Rattle.spread.specs.Spread.{SpreadState, spread_of, spread_work}
+use Rattle.spread.specs.Spread.{SpreadState, spread_work}
 use Rattle.spread.specs.Seen.{spread_cards, spread_crashed, spread_suspects, spread_wire, spread_poster}
-use Rattle.relay.specs.declared.state.Relay.{Relay}
-
-abbrev pub relay_of : Relay → SpreadState
-relay_of r = spread_of r.spread
 
 abbrev pub relay_handed : SpreadState → ℕ → ℕ
 relay_handed x = set_in x.relayed

@@ -1,4 +1,5 @@
 use spread::state::Spread;
+use std::marker::Model;
 
 pub mod broadcast;
 pub mod uniformity;
@@ -7,4 +8,12 @@ pub mod uniformity;
 #[derive(Drop)]
 pub struct Relay {
     spread: Spread,
+}
+
+impl Model for Relay {
+    ghost use Rattle.spread.specs.Spread.{SpreadState};
+
+    ghost Value = { SpreadState };
+
+    ghost view = { λ r. r.spread };
 }

@@ -30,6 +30,7 @@ pub fn report(heap: Global, file: &[u8]) -> Result<Vec<u8>, AllocError>
     Ok(text.into_bytes())
 }
 
+// Here and below the allocator stands beside what it serves, of which it is no part.
 fn report_text(heap: Global, file: &[u8]) -> Result<String, AllocError>
     ensures { IfOk result (λ out. string_bytes out ≡ report_of file.now) }
 {

@@ -1,7 +1,6 @@
 // The stacks that a schedule can name, and the report over one.
-ghost use Rattle.std.specs.Prelude.{◌≡◌, length, IfOk, string_bytes};
-ghost use Rattle.logs.specs.Orders.{in_ranking_order};
-ghost use Rattle.total_order.specs.Carrying.{cards_of};
+ghost use Rattle.std.specs.Prelude.{◌≡◌, IfOk, string_bytes};
+ghost use Rattle.runs.specs.Scripts.{cards_in, order_in};
 ghost use Rattle.report.specs.Stacks.{over_broadcast, over_pile};
 
 use allack::state::AllAck;
@@ -23,7 +22,7 @@ fn report_with<K: Kind, C: Consensus + Drop>(
     pile: Pile,
     script: &Script<'_, K>,
 ) -> Result<String, AllocError>
-    ensures { IfOk result (λ out. string_bytes out ≡ over_broadcast (cards_of script.now.cards (length script.now.book.now)) (in_ranking_order K.Kind.precedes script.now.book.now) script.now.calls.now C.Consensus pile.in_turn pile.broadcast) }
+    ensures { IfOk result (λ out. string_bytes out ≡ over_broadcast (cards_in script.now) (order_in K.Kind.precedes script.now) script.now.calls.now C.Consensus pile.in_turn pile.broadcast) }
 {
     match (pile.in_turn, pile.broadcast) {
         (false, BroadcastPart::Relay) => report_over::<K, Relay, C>(heap, script),
@@ -41,7 +40,7 @@ pub(crate) fn report_on<K: Kind>(
     pile: Pile,
     script: &Script<'_, K>,
 ) -> Result<String, AllocError>
-    ensures { IfOk result (λ out. string_bytes out ≡ over_pile (cards_of script.now.cards (length script.now.book.now)) (in_ranking_order K.Kind.precedes script.now.book.now) script.now.calls.now pile) }
+    ensures { IfOk result (λ out. string_bytes out ≡ over_pile (cards_in script.now) (order_in K.Kind.precedes script.now) script.now.calls.now pile) }
 {
     match pile.consensus {
         ConsensusPart::Register => report_with::<K, Register>(heap, pile, script),

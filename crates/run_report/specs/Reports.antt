@@ -3,8 +3,7 @@ use Rattle.std.specs.Prelude.{ℕ, List, [], ◌∷◌, ◌++◌, map}
 use Rattle.std.specs.List.{range_with_len}
 use Rattle.parts.specs.declared.broadcast.Broadcast.{Ghosts as Broadcasts}
 use Rattle.parts.specs.declared.consensus.Consensus.{Ghosts as Consensuses}
-use Rattle.total_order.specs.Carrying.{Carrying, fresh, card_count, log_at}
-use Rattle.total_order.specs.Carrying.{at_rest}
+use Rattle.total_order.specs.Carrying.{Carrying, fresh, card_count, log_at, at_rest}
 use Rattle.total_order.specs.Calls.{Answer}
 use Rattle.total_order.specs.declared.call.Call.{Call}
 use Rattle.runs.specs.Runs.{left_by, answers_to}

@@ -1,4 +1,4 @@
-// Writing what a run came to.
+// Writing what a run came to. What is written and where to are two values, of which only the second changes.
 ghost use Rattle.std.specs.Prelude.{◌≡◌, [], ◌∷◌, ◌++◌, string_bytes, OnOk};
 ghost use Rattle.total_order.specs.Models.{model};
 ghost use Rattle.run_report.specs.Lines.{lines_text};
@@ -31,6 +31,7 @@ fn write_logs<B: Broadcast, C: Consensus>(
 ) -> Result<(), AllocError>
     ensures { OnOk result (string_bytes out.new ≡ string_bytes out.old ++ lines_text (log_lines B.Broadcast C.Consensus (model B.Broadcast C.Consensus carrier.now))) }
 {
+    // A carrier answers by a card's number, and has no list of cards to go over.
     for card in 0..carrier.card_count() {
         write_card(out, carrier, card)?;
     }

@@ -1,10 +1,9 @@
 // The report of a run over any broadcast and any consensus: what was refused, the log of each card, and the steps.
 #![tactic(auto)]
 
-ghost use Rattle.std.specs.Prelude.{◌≡◌, length, IfOk, string_bytes};
-ghost use Rattle.logs.specs.Orders.{in_ranking_order};
-ghost use Rattle.total_order.specs.Carrying.{cards_of};
+ghost use Rattle.std.specs.Prelude.{◌≡◌, IfOk, string_bytes};
 ghost use Rattle.total_order.specs.Models.{model};
+ghost use Rattle.runs.specs.Scripts.{cards_in, order_in};
 ghost use Rattle.run_report.specs.Reports.{end_text, report_over};
 
 use crate::end::write_end;
@@ -20,12 +19,12 @@ use total_order::carrier::Carrier;
 mod end;
 mod lines;
 
-// The report of a script.
+// The report of a script. The allocator stands beside it, as in the calls of the library: it is no part of what to run.
 pub fn report_over<K: Kind, B: Broadcast + Drop, C: Consensus + Drop>(
     heap: Global,
     script: &Script<'_, K>,
 ) -> Result<String, AllocError>
-    ensures { IfOk result (λ out. string_bytes out ≡ report_over B.Broadcast C.Consensus (cards_of script.now.cards (length script.now.book.now)) (in_ranking_order K.Kind.precedes script.now.book.now) script.now.calls.now) }
+    ensures { IfOk result (λ out. string_bytes out ≡ report_over B.Broadcast C.Consensus (cards_in script.now) (order_in K.Kind.precedes script.now) script.now.calls.now) }
 {
     let end: RunEnd<B, C> = run::<K, B, C>(heap, script)?;
     report_of(heap, &end.carrier, end.answers.as_slice())
@@ -36,7 +35,7 @@ pub fn report_over_uniform<K: Kind, B: Uniform + Drop, C: Consensus + Drop>(
     heap: Global,
     script: &Script<'_, K>,
 ) -> Result<String, AllocError>
-    ensures { IfOk result (λ out. string_bytes out ≡ report_over B.Broadcast C.Consensus (cards_of script.now.cards (length script.now.book.now)) (in_ranking_order K.Kind.precedes script.now.book.now) script.now.calls.now) }
+    ensures { IfOk result (λ out. string_bytes out ≡ report_over B.Broadcast C.Consensus (cards_in script.now) (order_in K.Kind.precedes script.now) script.now.calls.now) }
 {
     let end: UniformEnd<B, C> = run_uniform::<K, B, C>(heap, script)?;
     report_of(heap, &end.run.carrier, end.run.answers.as_slice())

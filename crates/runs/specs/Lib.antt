@@ -1,3 +1,4 @@
 pub mod Runs
 pub mod Tally
 pub mod Law
+pub mod Scripts

@@ -1,13 +1,11 @@
 // Runs: a list of calls on a new carrier. Whatever the broadcast, the consensus and the calls, the cards log the notes in one order.
 #![tactic(auto)]
 
-ghost use Rattle.std.specs.Prelude.{◌≡◌, ℕ, ◌+◌, ◌<◌, ◌≤◌, true, List, [], ◌∷◌, ◌++◌, length, IfOk, vec_len, vec_capacity, Decides, OnOk};
+ghost use Rattle.std.specs.Prelude.{◌≡◌, ◌+◌, ◌<◌, ◌≤◌, [], ◌∷◌, ◌++◌, length, IfOk, vec_len, vec_capacity, Decides};
 ghost use Rattle.parts.specs.Views.{Quiet};
 ghost use Rattle.parts.specs.Shown.{shown};
-ghost use Rattle.parts.specs.Broadcasting.{UniformAgreement};
-ghost use Rattle.logs.specs.Orders.{in_ranking_order, RankingOrder};
-ghost use Rattle.total_order.specs.Carrying.{fresh, cards_of};
 ghost use Rattle.total_order.specs.Models.{model};
+ghost use Rattle.runs.specs.Scripts.{cards_in, begun};
 ghost use Rattle.runs.specs.Runs.{left_by, answers_to};
 ghost use Rattle.runs.specs.Tally.{tally};
 ghost use Rattle.runs.specs.Law.{OneOrder, CrashedLogsBeginRunningOnes};
@@ -40,17 +38,15 @@ pub fn run<K: Kind, B: Broadcast + Drop, C: Consensus + Drop>(
     heap: Global,
     script: &Script<'_, K>,
 ) -> Result<RunEnd<B, C>, AllocError>
-    ensures carrier { IfOk result (λ k. model B.Broadcast C.Consensus k.carrier ≡ left_by B.Broadcast C.Consensus (fresh B.Broadcast C.Consensus (cards_of script.now.cards (length script.now.book.now)) (in_ranking_order K.Kind.precedes script.now.book.now)) script.now.calls.now) }
-    ensures answers { IfOk result (λ k. k.answers.items ≡ answers_to B.Broadcast C.Consensus (fresh B.Broadcast C.Consensus (cards_of script.now.cards (length script.now.book.now)) (in_ranking_order K.Kind.precedes script.now.book.now)) script.now.calls.now) }
+    ensures carrier { IfOk result (λ k. model B.Broadcast C.Consensus k.carrier ≡ left_by B.Broadcast C.Consensus (begun B.Broadcast C.Consensus K.Kind.precedes script.now) script.now.calls.now) }
+    ensures answers { IfOk result (λ k. k.answers.items ≡ answers_to B.Broadcast C.Consensus (begun B.Broadcast C.Consensus K.Kind.precedes script.now) script.now.calls.now) }
     ensures made { IfOk result (λ k. B.Broadcast.made (model B.Broadcast C.Consensus k.carrier).broadcast) }
-    ensures order { IfOk result (λ k. OneOrder B.Broadcast C.Consensus (cards_of script.now.cards (length script.now.book.now)) (tally script.now.calls.now k.answers.items) (model B.Broadcast C.Consensus k.carrier)) }
+    ensures order { IfOk result (λ k. OneOrder B.Broadcast C.Consensus (cards_in script.now) (tally script.now.calls.now k.answers.items) (model B.Broadcast C.Consensus k.carrier)) }
 {
     let mut answers = Vec::with_capacity(heap, script.calls.len())?;
-    let mut carrier = new_carrier::<K, B, C>(heap, script)?;
+    let mut carrier = Carrier::new(heap, script.cards, script.book)?;
     make_calls(&mut carrier, script.calls, &mut answers);
-    let end = RunEnd { carrier, answers };
-    order_law::<K, B, C>(script, &end);
-    Ok(end)
+    Ok(RunEnd { carrier, answers })
 }
 
 // A run over a uniform broadcast, and whether that is quiet in the end.
@@ -66,27 +62,15 @@ pub fn run_uniform<K: Kind, B: Uniform + Drop, C: Consensus + Drop>(
     heap: Global,
     script: &Script<'_, K>,
 ) -> Result<UniformEnd<B, C>, AllocError>
-    ensures carrier { IfOk result (λ k. model B.Broadcast C.Consensus k.run.carrier ≡ left_by B.Broadcast C.Consensus (fresh B.Broadcast C.Consensus (cards_of script.now.cards (length script.now.book.now)) (in_ranking_order K.Kind.precedes script.now.book.now)) script.now.calls.now) }
-    ensures answers { IfOk result (λ k. k.run.answers.items ≡ answers_to B.Broadcast C.Consensus (fresh B.Broadcast C.Consensus (cards_of script.now.cards (length script.now.book.now)) (in_ranking_order K.Kind.precedes script.now.book.now)) script.now.calls.now) }
-    ensures order { IfOk result (λ k. OneOrder B.Broadcast C.Consensus (cards_of script.now.cards (length script.now.book.now)) (tally script.now.calls.now k.run.answers.items) (model B.Broadcast C.Consensus k.run.carrier)) }
+    ensures carrier { IfOk result (λ k. model B.Broadcast C.Consensus k.run.carrier ≡ left_by B.Broadcast C.Consensus (begun B.Broadcast C.Consensus K.Kind.precedes script.now) script.now.calls.now) }
+    ensures answers { IfOk result (λ k. k.run.answers.items ≡ answers_to B.Broadcast C.Consensus (begun B.Broadcast C.Consensus K.Kind.precedes script.now) script.now.calls.now) }
+    ensures order { IfOk result (λ k. OneOrder B.Broadcast C.Consensus (cards_in script.now) (tally script.now.calls.now k.run.answers.items) (model B.Broadcast C.Consensus k.run.carrier)) }
     ensures quiet { IfOk result (λ k. Decides k.quiet (Quiet (shown B.Broadcast (model B.Broadcast C.Consensus k.run.carrier).broadcast).net)) }
-    ensures crashed_logs_begin_running_ones { IfOk result (λ k. CrashedLogsBeginRunningOnes B.Broadcast C.Consensus (cards_of script.now.cards (length script.now.book.now)) (tally script.now.calls.now k.run.answers.items) (model B.Broadcast C.Consensus k.run.carrier)) }
+    ensures crashed_logs_begin_running_ones { IfOk result (λ k. CrashedLogsBeginRunningOnes B.Broadcast C.Consensus (cards_in script.now) (tally script.now.calls.now k.run.answers.items) (model B.Broadcast C.Consensus k.run.carrier)) }
 {
     let run = run::<K, B, C>(heap, script)?;
     let quiet = run.carrier.is_quiet();
-    crashed_logs_law::<K, B, C>(script, &run, quiet);
     Ok(UniformEnd { run, quiet })
-}
-
-// A new carrier; and its book has a ranking order.
-fn new_carrier<K: Kind, B: Broadcast + Drop, C: Consensus + Drop>(
-    heap: Global,
-    script: &Script<'_, K>,
-) -> Result<Carrier<B, C>, AllocError>
-    ensures fresh { IfOk result (λ k. model B.Broadcast C.Consensus k ≡ fresh B.Broadcast C.Consensus (cards_of script.now.cards (length script.now.book.now)) (in_ranking_order K.Kind.precedes script.now.book.now)) }
-    ensures ranked { OnOk result (RankingOrder K.Kind.precedes script.now.book.now (in_ranking_order K.Kind.precedes script.now.book.now)) }
-{
-    Carrier::new(heap, script.cards, script.book)
 }
 
 // Makes the calls, one after the other, and keeps what each answered.
@@ -120,25 +104,3 @@ fn make_call<B: Broadcast, C: Consensus>(
 {
     answers.push_reserved(carrier.call(call));
 }
-
-// The order law, of the end of any run. This function does nothing: it states the law.
-fn order_law<K: Kind, B: Broadcast, C: Consensus>(script: &Script<'_, K>, end: &RunEnd<B, C>)
-    requires ranked { RankingOrder K.Kind.precedes script.now.book.now (in_ranking_order K.Kind.precedes script.now.book.now) }
-    requires carrier { model B.Broadcast C.Consensus end.now.carrier ≡ left_by B.Broadcast C.Consensus (fresh B.Broadcast C.Consensus (cards_of script.now.cards (length script.now.book.now)) (in_ranking_order K.Kind.precedes script.now.book.now)) script.now.calls.now }
-    requires answers { end.now.answers.items ≡ answers_to B.Broadcast C.Consensus (fresh B.Broadcast C.Consensus (cards_of script.now.cards (length script.now.book.now)) (in_ranking_order K.Kind.precedes script.now.book.now)) script.now.calls.now }
-    ensures made { B.Broadcast.made (model B.Broadcast C.Consensus end.now.carrier).broadcast }
-    ensures order { OneOrder B.Broadcast C.Consensus (cards_of script.now.cards (length script.now.book.now)) (tally script.now.calls.now end.now.answers.items) (model B.Broadcast C.Consensus end.now.carrier) }
-{}
-
-// At rest under full suspicion the broadcast is quiet, so the question is answered yes, and its promise holds. This, too, does nothing.
-fn crashed_logs_law<K: Kind, B: Uniform, C: Consensus>(
-    script: &Script<'_, K>,
-    end: &RunEnd<B, C>,
-    quiet: bool,
-)
-    requires made { B.Broadcast.made (model B.Broadcast C.Consensus end.now.carrier).broadcast }
-    requires order { OneOrder B.Broadcast C.Consensus (cards_of script.now.cards (length script.now.book.now)) (tally script.now.calls.now end.now.answers.items) (model B.Broadcast C.Consensus end.now.carrier) }
-    requires answer { Decides quiet (Quiet (shown B.Broadcast (model B.Broadcast C.Consensus end.now.carrier).broadcast).net) }
-    requires agreed { quiet ≡ true → B.Broadcast.made (model B.Broadcast C.Consensus end.now.carrier).broadcast → UniformAgreement (shown B.Broadcast (model B.Broadcast C.Consensus end.now.carrier).broadcast) }
-    ensures { CrashedLogsBeginRunningOnes B.Broadcast C.Consensus (cards_of script.now.cards (length script.now.book.now)) (tally script.now.calls.now end.now.answers.items) (model B.Broadcast C.Consensus end.now.carrier) }
-{}

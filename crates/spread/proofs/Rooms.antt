@@ -1,17 +1,13 @@
 -- There is room for what a relay sends, and then for every relay still to come.
-use Rattle.std.proofs.Common.{◌≡◌, ℕ, ◌+◌, ◌*◌, ◌<◌, ◌≤◌, Bool, true, false, cond, ◌++◌, length, refl, ◌∙◌, arith}
-use Rattle.std.proofs.lemmas.List.{length-append, length-map}
+use Rattle.std.proofs.Common.{◌≡◌, ℕ, ◌+◌, ◌<◌, ◌≤◌, Bool, true, false, cond, ◌++◌, length, refl, ap, ◌∙◌, arith, length-set}
+use Rattle.std.proofs.lemmas.List.{length-append}
 use Rattle.std.proofs.lemmas.Bool.{and_parts, ltb-true, not-true}
 use Rattle.std.proofs.lemmas.Bool.Decides.{nat_tests}
-use Rattle.notes.specs.Models.{bits}
 use Rattle.notes.specs.Sets.{has}
-use Rattle.cards.specs.Cards.{cards_of}
-use Rattle.tables.specs.Tables.{card_sets_of, set_in, with_note}
-use Rattle.wire.specs.Wires.{items_of, room_of, sent}
+use Rattle.tables.specs.Tables.{set_in, with_note}
+use Rattle.wire.specs.Wires.{WireState, holding, sent}
 use Rattle.wire.proofs.Wires.{length_sent_others}
-use Rattle.spread.specs.Counts.{unrelayed}
-use Rattle.spread.specs.Spread.{SpreadState, spread_of, lacks, relay_on, meet_on}
-use Rattle.spread.specs.declared.state.Spread.{Spread}
+use Rattle.spread.specs.Spread.{SpreadState, Roomy, lacks, relay_on, meet_on}
 use Rattle.spread.proofs.Pairs.{unrelayed_falls}
 
 pub lacks_parts : (x : SpreadState) (p m : ℕ) → lacks x p m ≡ true → (p < x.cards.count) × (m < 32) × (has (set_in x.relayed p) m ≡ false)
@@ -32,13 +28,11 @@ meet_cases P x p m f g = by_test (lacks x p m) f g
     by_test true f g = f refl
     by_test false f g = g refl
 
-pub relay_room : (s : Spread) (p m : ℕ) → lacks (spread_of s) p m ≡ true
-    → (length (items_of s.wire) + length (sent (cards_of s.cards) p m s.cards.size) ≤ room_of s.wire)
-    × (length (items_of s.wire ++ sent (cards_of s.cards) p m s.cards.size) + 5 * unrelayed (with_note (card_sets_of s.relayed) p m) ≤ room_of s.wire)
-relay_room s p m h =
-    let l = lacks_parts (spread_of s) p m h in
-    let few = length_sent_others (cards_of s.cards) p m s.cards.size l.0 in
-    let six : length (card_sets_of s.relayed) ≡ 6 = length-map s.relayed.sets bits ∙ s.relayed.cards in
-    let less = unrelayed_falls (card_sets_of s.relayed) p m six (omega (arith, l.0, s.cards.few)) l.1 l.2 in
-    let all = length-append (items_of s.wire) (sent (cards_of s.cards) p m s.cards.size) in
-    (omega (arith, s.room, s.cards.few), omega (arith, s.room, s.cards.few))
+pub relay_room : (x y : SpreadState) (wire : WireState ℕ) (p m : ℕ) → x ≡ y → Roomy x.cards x.relayed wire → lacks y p m ≡ true
+    → (length wire.items + length (sent x.cards p m x.cards.count) ≤ wire.room) × Roomy x.cards (with_note x.relayed p m) (holding wire (wire.items ++ sent x.cards p m x.cards.count))
+relay_room x y wire p m e g h =
+    let l = lacks_parts x p m (ap (λ z. lacks z p m) e ∙ h) in
+    let few = length_sent_others x.cards p m x.cards.count l.0 in
+    let less = unrelayed_falls x.relayed p m g.sets (omega (arith, l.0, g.few)) l.1 l.2 in
+    let all = length-append wire.items (sent x.cards p m x.cards.count) in
+    (omega (arith, g.room, g.few), record { few = g.few; sets = simp length-set g.sets; room = omega (arith, g.room, g.few) })

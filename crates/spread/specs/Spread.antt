@@ -1,13 +1,12 @@
 -- Notes that spread by relaying: what the state holds, what is seen of it, and what each accepted call makes of it.
-use Rattle.std.specs.Prelude.{ℕ, ◌+◌, ◌-◌, ◌*◌, Bool, cond, not, ◌&&◌, List, [], ◌++◌, length, replicate, is_some, Some, None, Option, nat_lt, slice_set}
+use Rattle.std.specs.Prelude.{◌≡◌, ◌≤◌, ℕ, ◌+◌, ◌-◌, ◌*◌, Bool, cond, not, ◌&&◌, List, [], ◌++◌, length, replicate, is_some, Some, None, Option, nat_lt, slice_set}
 use Rattle.std.specs.List.{slice_get, remove}
 use Rattle.notes.specs.Sets.{has}
-use Rattle.cards.specs.Cards.{CardState, cards_of, crashed_in, new_cards, with_crash, with_suspicion}
-use Rattle.tables.specs.Tables.{posters_of, poster_in, card_sets_of, set_in, with_note}
-use Rattle.wire.specs.Wires.{items_of, sent, without_to}
+use Rattle.cards.specs.Cards.{CardState, crashed_in, new_cards, with_crash, with_suspicion}
+use Rattle.tables.specs.Tables.{poster_in, set_in, with_note}
+use Rattle.wire.specs.Wires.{WireState, sent, without_to}
 use Rattle.wire.specs.declared.Item.{Item}
-use Rattle.spread.specs.Counts.{pairs}
-use Rattle.spread.specs.declared.state.Spread.{Spread}
+use Rattle.spread.specs.Counts.{pairs, unrelayed}
 
 -- `relayed` has a set for each card: the notes that it has relayed. An item's load is the note.
 pub record SpreadState : Type 0 where
@@ -16,8 +15,11 @@ pub record SpreadState : Type 0 where
   pub relayed : List ℕ
   pub wire : List (Item ℕ)
 
-abbrev pub spread_of : Spread → SpreadState
-spread_of s = record { cards = cards_of s.cards; posters = posters_of s.posters; relayed = card_sets_of s.relayed; wire = items_of s.wire }
+-- There is room for every relay to come, each to at most five other cards.
+pub record Roomy (cards : CardState) (relayed : List ℕ) (wire : WireState ℕ) : Type 0 where
+  pub few : cards.count ≤ 6
+  pub sets : length relayed ≡ 6
+  pub room : length wire.items + 5 * unrelayed relayed ≤ wire.room
 
 -- Whether card p has still to relay note m.
 abbrev pub lacks : SpreadState → ℕ → ℕ → Bool

@@ -1,9 +1,5 @@
-ghost use Rattle.std.specs.Prelude.{◌+◌, ◌*◌, ◌≤◌, length};
-ghost use Rattle.tables.specs.Tables.{card_sets_of};
-ghost use Rattle.wire.specs.Wires.{items_of, room_of};
-ghost use Rattle.spread.specs.Counts.{unrelayed};
-
 use cards::Cards;
+use std::marker::Model;
 use tables::card_sets::CardSets;
 use tables::posters::Posters;
 use wire::Wire;
@@ -17,6 +13,14 @@ pub struct Spread {
     posters: Posters,
     relayed: CardSets,
     wire: Wire<usize>,
-    // There is room for every relay to come, each to at most five other cards.
-    ghost room: { length (items_of wire) + 5 * unrelayed (card_sets_of relayed) ≤ room_of wire },
+}
+
+impl Model for Spread {
+    ghost use Rattle.spread.specs.Spread.{SpreadState, Roomy};
+
+    ghost Value = { SpreadState };
+
+    ghost view = { λ s. record { cards = s.cards; posters = s.posters; relayed = s.relayed; wire = s.wire.items } };
+
+    ghost invariant = { λ s. Roomy s.cards s.relayed s.wire };
 }

@@ -2,6 +2,7 @@
 use parts::refusal::Refusal;
 pub use parts::wires::Wire;
 
+// One variant for each kind of call. It is not the `Event` of a file, since a carrier is called with any number.
 #[derive(Clone, Copy, PartialEq, Eq, Debug)]
 pub enum Call {
     // A card posts a note: the card, then the note.

@@ -4,8 +4,8 @@ ghost use Rattle.std.specs.Prelude.{◌≡◌, ◌+◌, ◌≤◌, false, [], �
 ghost use Rattle.std.specs.List.{slice_get, remove};
 ghost use Rattle.std.specs.Option.{unwrap_or};
 ghost use Rattle.std.specs.VecDeque.Iter.{deque_iter_rest};
-ghost use Rattle.parts.specs.Refusals.{lose_answer};
-ghost use Rattle.cards.specs.Cards.{net_of};
+ghost use Rattle.parts.specs.Refusals.{lose_answer, crash_answer};
+ghost use Rattle.cards.specs.Cards.{net_of, with_crash};
 ghost use Rattle.wire.specs.Wires.{holding, senders, joined, sending, sent, without_to};
 
 use cards::Cards;
@@ -107,7 +107,6 @@ impl<P: Copy> Wire<P> {
         ensures there { is_some result ≡ nat_lt item (length (senders self.old.items)) }
         ensures after { self.new ≡ holding self.old (remove self.old.items item) }
         ensures untouched { is_some result ≡ false → self.new ≡ self.old }
-        ensures fewer { length self.new.items ≤ length self.old.items }
     {
         self.items.remove(item)
     }
@@ -116,13 +115,24 @@ impl<P: Copy> Wire<P> {
     pub fn lose(&mut self, cards: &Cards, item: usize) -> Result<(), Refusal>
         ensures answer { result ≡ lose_answer (net_of cards.now (senders self.old.items) 0) item }
         ensures after { self.new ≡ (if is_ok result then holding self.old (remove self.old.items item) else self.old) }
-        ensures fewer { length self.new.items ≤ length self.old.items }
     {
         let sender = self.sender_of(item).ok_or(Refusal::NoSuchItem)?;
         if !cards.has_crashed(sender) {
             return Err(Refusal::SenderNotCrashed);
         }
         let _ = self.take(item);
+        Ok(())
+    }
+
+    // A card crashes: what is addressed to it leaves, and the rest keeps its order.
+    pub fn crash(&mut self, cards: &mut Cards, card: usize) -> Result<(), Refusal>
+        ensures answer { result ≡ crash_answer (net_of cards.old [] 0) card }
+        ensures cards { cards.new ≡ (if is_ok result then with_crash cards.old card else cards.old) }
+        ensures after { self.new ≡ (if is_ok result then holding self.old (without_to card self.old.items) else self.old) }
+        ensures fewer { length self.new.items ≤ length self.old.items }
+    {
+        cards.crash(card)?;
+        self.let_go(card);
         Ok(())
     }
 

@@ -1,13 +1,13 @@
 -- What a run comes to.
-use Rattle.std.specs.Prelude.{ℕ, Bool, List, map, length, Ok, Err}
+use Rattle.std.specs.Prelude.{ℕ, Bool, List, map, Ok, Err}
 use Rattle.std.specs.List.{range_with_len}
 use Rattle.parts.specs.declared.broadcast.Broadcast.{Ghosts as Broadcasts}
 use Rattle.parts.specs.declared.consensus.Consensus.{Ghosts as Consensuses}
-use Rattle.logs.specs.Orders.{in_ranking_order}
-use Rattle.total_order.specs.Carrying.{Carrying, fresh, cards_of, card_count, log_at, at_rest}
+use Rattle.total_order.specs.Carrying.{Carrying, card_count, log_at, at_rest}
 use Rattle.parts.specs.Refusals.{number}
 use Rattle.total_order.specs.Calls.{Answer}
 use Rattle.total_order.specs.declared.call.Call.{Call}
+use Rattle.runs.specs.Scripts.{new_carrier}
 use Rattle.runs.specs.Runs.{left_by, answers_to}
 
 abbrev pub refused_by : Answer → ℕ
@@ -22,10 +22,6 @@ pub record Report : Type 0 where
   pub rest : Bool
 
 module _ {X Y : Type 0} (b : Broadcasts X) (c : Consensuses Y) where
-  -- A new carrier with so many cards and this book, whose notes stand before one another as told.
-  abbrev pub new_carrier : {K : Type 0} → (K → K → Bool) → ℕ → List K → Carrying b c
-  new_carrier precedes cards book = fresh b c (cards_of cards (length book)) (in_ranking_order precedes book)
-
   abbrev pub report_on : Carrying b c → List Call → Carrying b c → Report
   report_on s calls end = record {
     refusals = map refused_by (answers_to b c s calls);
@@ -37,4 +33,4 @@ module _ {X Y : Type 0} (b : Broadcasts X) (c : Consensuses Y) where
   -- What the calls come to on that carrier.
   abbrev pub report : {K : Type 0} → (K → K → Bool) → ℕ → List K → List Call → Report
   report precedes cards book calls =
-      report_on (new_carrier precedes cards book) calls (left_by b c (new_carrier precedes cards book) calls)
+      report_on (new_carrier b c precedes cards book) calls (left_by b c (new_carrier b c precedes cards book) calls)

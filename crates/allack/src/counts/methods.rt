@@ -1,6 +1,5 @@
 ghost use Rattle.std.specs.Prelude.{◌≡◌};
-ghost use Rattle.notes.specs.Models.{bits};
-ghost use Rattle.allack.specs.Counts.{counts_of, new_counts, counted_in, with_count};
+ghost use Rattle.allack.specs.Counts.{new_counts, counted_in, with_count};
 
 use super::Counts;
 use notes::set::NoteSet;
@@ -9,7 +8,7 @@ use tables::card_sets::CardSets;
 
 impl Counts {
     pub fn new() -> Counts
-        ensures { counts_of result ≡ new_counts }
+        ensures { result ≡ new_counts }
     {
         Counts {
             rows: array::from_fn(|_card| CardSets::new()),
@@ -18,7 +17,7 @@ impl Counts {
 
     // The notes of which the card has counted the relayer.
     pub fn of(&self, card: usize, relayer: usize) -> NoteSet
-        ensures { bits result ≡ counted_in (counts_of self.now) card relayer }
+        ensures { result ≡ counted_in self.now card relayer }
     {
         self.rows
             .get(card)
@@ -27,7 +26,7 @@ impl Counts {
 
     // The card counts the relayer of the note.
     pub fn count(&mut self, card: usize, relayer: usize, note: usize)
-        ensures { counts_of self.new ≡ with_count (counts_of self.old) card relayer note }
+        ensures { self.new ≡ with_count self.old card relayer note }
     {
         // By index: what an array's `get_mut` writes, a proof does not know.
         if card < 6 {

@@ -1,11 +1,10 @@
-ghost use Rattle.allack.specs.AllAck.{AllAckState, all_ack_of, ack_cards, ack_crashed, ack_suspects, ack_wire, ack_work, ack_poster, ack_handed, new_all_ack, post_on, carry_on, lose_on, crash_on, suspect_on};
+ghost use Rattle.allack.specs.AllAck.{AllAckState, ack_cards, ack_crashed, ack_suspects, ack_wire, ack_work, ack_poster, ack_handed, new_all_ack, post_on, carry_on, lose_on, crash_on, suspect_on};
 ghost use Rattle.allack.specs.Made.{MadeAllAck};
 ghost use Rattle.std.proofs.Common.{arith};
 ghost use Rattle.allack.specs.Keeps.{new_made};
 ghost use Rattle.allack.specs.Means.{new_means, post_made, post_means, carry_made, carry_means, lose_made, lose_means, crash_made, crash_means, suspect_made, suspect_means, lawful};
 
 use super::AllAck;
-use super::steps::agreement_when_quiet;
 use crate::counts::Counts;
 use notes::set::NoteSet;
 use parts::broadcast::Broadcast;
@@ -18,7 +17,7 @@ use tables::card_sets::CardSets;
 impl Broadcast for AllAck {
     ghost State = { AllAckState };
 
-    ghost state = { all_ack_of };
+    ghost state = { λ a. a };
 
     ghost cards = { ack_cards };
 
@@ -139,9 +138,8 @@ impl Broadcast for AllAck {
 }
 
 impl Uniform for AllAck {
+    #[tactic(auto, using(crate::specs::Means::quiet_agrees))]
     fn is_quiet(&self) -> bool {
-        let quiet = self.spread.is_quiet();
-        agreement_when_quiet(self, quiet);
-        quiet
+        self.spread.is_quiet()
     }
 }

@@ -98,11 +98,8 @@ impl Broadcast for Board {
         self.wire.lose(&self.cards, item)
     }
 
-    // A part's own cards and own wire, so each part says it: a function for both would take as many words to call.
     fn crash(&mut self, card: usize) -> Result<(), Refusal> {
-        self.cards.crash(card)?;
-        self.wire.let_go(card);
-        Ok(())
+        self.wire.crash(&mut self.cards, card)
     }
 
     fn suspect(&mut self, by: usize, card: usize) -> Result<(), Refusal> {

@@ -1,7 +1,5 @@
 ghost use Rattle.std.specs.Prelude.{◌≡◌, [], IfOk};
-ghost use Rattle.notes.specs.Models.{bits};
 ghost use Rattle.inturn.specs.Turns.{written, all_held, in_turn};
-ghost use Rattle.inturn.specs.Models.{posts_of};
 
 use super::Table;
 use crate::post::Post;
@@ -10,7 +8,7 @@ use std::alloc::{AllocError, Global};
 
 impl Table {
     pub(crate) fn new(heap: Global) -> Result<Table, AllocError>
-        ensures { IfOk result (λ t. posts_of t ≡ []) }
+        ensures { IfOk result (λ t. t ≡ []) }
     {
         let posts = Vec::with_capacity(heap, 32)?;
         Ok(Table { posts })
@@ -18,7 +16,7 @@ impl Table {
 
     // Writes a post at the end, into the room reserved by `new`: no later call may fail for memory.
     pub(crate) fn write(&mut self, card: usize, note: usize)
-        ensures { posts_of self.new ≡ written (posts_of self.old) card note }
+        ensures { self.new ≡ written self.old card note }
     {
         if self.posts.len() < 32 {
             self.posts.push_reserved(Post { card, note });
@@ -28,7 +26,7 @@ impl Table {
     // The notes that count where those of the set are handed.
     #[tactic(auto, using(crate::specs::Counts::counted_more))]
     pub(crate) fn in_turn(&self, handed: NoteSet) -> NoteSet
-        ensures { bits result ≡ in_turn (posts_of self.now) (bits handed) }
+        ensures { result ≡ in_turn self.now handed }
     {
         let mut counted = NoteSet::empty();
         for (place, post) in self.posts.iter().enumerate() {
@@ -42,7 +40,7 @@ impl Table {
 
 // Whether the set holds the notes of all posts that the card made among these.
 fn all_held(posts: &[Post], card: usize, handed: NoteSet) -> bool
-    ensures { result ≡ all_held posts.now (bits handed) card }
+    ensures { result ≡ all_held posts.now handed card }
 {
     posts
         .iter()

@@ -1,4 +1,4 @@
-ghost use Rattle.register.specs.Register.{RegisterState, register_of, register_cards, register_crashed, register_suspects, register_wire, register_work, register_proposal, register_decision, new_register, propose_on, carry_on, lose_on, crash_on, suspect_on};
+ghost use Rattle.register.specs.Register.{RegisterState, register_cards, register_crashed, register_suspects, register_wire, register_work, register_proposal, register_decision, new_register, propose_on, carry_on, lose_on, crash_on, suspect_on};
 ghost use Rattle.register.specs.Made.{MadeRegister};
 ghost use Rattle.std.proofs.Common.{arith};
 ghost use Rattle.register.specs.Keeps.{new_made, propose_made, carry_made, lose_made, crash_made, suspect_made};
@@ -20,7 +20,7 @@ const ITEMS_OF_A_PROPOSAL: u32 = 1;
 impl Consensus for Register {
     ghost State = { RegisterState };
 
-    ghost state = { register_of };
+    ghost state = { λ r. r };
 
     ghost cards = { register_cards };
 

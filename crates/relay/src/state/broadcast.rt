@@ -1,7 +1,7 @@
 ghost use Rattle.spread.specs.Spread.{SpreadState, spread_work, new_spread, post_on, carry_on, without_item, crash_on, suspect_on};
 ghost use Rattle.spread.specs.Made.{MadeSpread};
 ghost use Rattle.spread.specs.Seen.{spread_cards, spread_crashed, spread_suspects, spread_wire, spread_poster};
-ghost use Rattle.relay.specs.Relay.{relay_of, relay_handed};
+ghost use Rattle.relay.specs.Relay.{relay_handed};
 ghost use Rattle.std.proofs.Common.{arith};
 ghost use Rattle.spread.proofs.Keeps.{new_made};
 ghost use Rattle.relay.specs.Means.{new_means, post_made, post_means, carry_made, carry_means, lose_made, lose_means, crash_made, crash_means, suspect_made, suspect_means, lawful};
@@ -16,7 +16,7 @@ use std::alloc::{AllocError, Global};
 impl Broadcast for Relay {
     ghost State = { SpreadState };
 
-    ghost state = { relay_of };
+    ghost state = { λ r. r };
 
     ghost cards = { spread_cards };
 

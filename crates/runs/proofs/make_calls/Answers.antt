@@ -25,7 +25,7 @@ module _ {X Y : Type 0} (b : Broadcasts X) (c : Consensuses Y) where
 pub loop-call-init : goal.loop-call-init
 loop-call-init g c =
     let s = model g.B.Broadcast g.C.Consensus c.args.carrier.now in
-    (refl, ap (λ us. us ++ answers_to g.B.Broadcast g.C.Consensus s c.args.calls.now) c.requires.none, c.requires.empty, c.requires.room)
+    (refl {a = left_by g.B.Broadcast g.C.Consensus s c.args.calls.now}, ap (λ us. us ++ answers_to g.B.Broadcast g.C.Consensus s c.args.calls.now) c.requires.none, c.requires.empty, c.requires.room)
 
 pub loop-call-preserved : goal.loop-call-preserved
 loop-call-preserved g c =
@@ -57,5 +57,5 @@ returns g c =
     let us = vec_items c.loop-call.answers in
     record {
       carrier = sym (at_drop_all (left_by b d s) xs i c.loop-call-test.false) ∙ c.loop-call.invariant.0;
-      answers = sym (append-nil _) ∙ sym (at_drop_all (λ ys. us ++ answers_to b d s ys) xs i c.loop-call-test.false) ∙ c.loop-call.invariant.1;
+      answers = sym (append-nil us) ∙ sym (at_drop_all (λ ys. us ++ answers_to b d s ys) xs i c.loop-call-test.false) ∙ c.loop-call.invariant.1;
     }

@@ -14,6 +14,7 @@ impl<B: Broadcast, C: Consensus> Carrier<B, C> {
         ensures answer { result ≡ (calling B.Broadcast C.Consensus (model B.Broadcast C.Consensus self.old) call).tells }
         ensures after { model B.Broadcast C.Consensus self.new ≡ (calling B.Broadcast C.Consensus (model B.Broadcast C.Consensus self.old) call).leaves }
     {
+        // The kinds differ in their arguments, so each has its own call.
         match call {
             Call::Post(card, note) => self.post(card, note)?,
             Call::Carry(wire, item) => self.carry(wire, item)?,

@@ -1,7 +1,7 @@
 // What the carrier shows of its cards, and which of them can propose or take.
-ghost use Rattle.std.specs.Prelude.{◌≡◌, ℕ, ◌<◌, ◌≤◌, true, List, [], length, Ok, IfOk, Decides};
+ghost use Rattle.std.specs.Prelude.{◌≡◌, ◌<◌, ◌≤◌, true, length, Ok, Err, IfOk, if◌then◌else◌, Decides};
 ghost use Rattle.std.specs.Result.{result_and};
-ghost use Rattle.notes.specs.Models.{bits};
+ghost use Rattle.parts.specs.declared.refusal.Refusal.TheVariants.{NoSuchCard, CardCrashed};
 ghost use Rattle.parts.specs.Views.{Quiet};
 ghost use Rattle.parts.specs.Shown.{shown};
 ghost use Rattle.parts.specs.Broadcasting.{UniformAgreement};
@@ -56,7 +56,7 @@ impl<B: Broadcast, C: Consensus> Carrier<B, C> {
         self.steps
     }
 
-    // How many items are on a wire.
+    // How many items are on a wire. The two parts are of two types, so each wire has its own call, here and in `carry` and `lose`.
     pub fn wire_len(&self, wire: Wire) -> usize
         ensures { result ≡ length (wire_on B.Broadcast C.Consensus (model B.Broadcast C.Consensus self.now) wire) }
     {
@@ -83,14 +83,14 @@ impl<B: Broadcast, C: Consensus> Carrier<B, C> {
     // The notes handed to a card that are not in its log.
     #[tactic(auto, unfolding(crate::specs::Carrying::waiting))]
     pub(crate) fn waiting(&self, card: usize) -> NoteSet
-        ensures { bits result ≡ waiting B.Broadcast C.Consensus (model B.Broadcast C.Consensus self.now) card }
+        ensures { result ≡ waiting B.Broadcast C.Consensus (model B.Broadcast C.Consensus self.now) card }
     {
         self.broadcast.handed_to(card).without(self.notes_of(card))
     }
 
     // The notes of a card's log.
     fn notes_of(&self, card: usize) -> NoteSet
-        ensures { bits result ≡ with_all 0 (log_at B.Broadcast C.Consensus (model B.Broadcast C.Consensus self.now) card) }
+        ensures { result ≡ with_all 0 (log_at B.Broadcast C.Consensus (model B.Broadcast C.Consensus self.now) card) }
     {
         self.cards
             .get(card)
@@ -101,12 +101,10 @@ impl<B: Broadcast, C: Consensus> Carrier<B, C> {
     pub(crate) fn may_propose(&self, card: usize) -> Result<(), Refusal>
         ensures { result ≡ propose_reply B.Broadcast C.Consensus (model B.Broadcast C.Consensus self.now) card }
     {
-        if card >= self.card_count() || card >= self.consensus.card_count() {
-            return Err(Refusal::NoSuchCard);
-        }
-        if self.consensus.has_crashed(card) {
-            return Err(Refusal::CardCrashed);
-        }
+        acting(
+            card < self.card_count() && card < self.consensus.card_count(),
+            self.consensus.has_crashed(card),
+        )?;
         let instance = self.instance(card);
         if self.consensus.proposal_of(instance, card).is_some() {
             return Err(Refusal::AlreadyProposed);
@@ -120,17 +118,23 @@ impl<B: Broadcast, C: Consensus> Carrier<B, C> {
     // The decision that take would take.
     pub(crate) fn decision(&self, card: usize) -> Result<NoteSet, Refusal>
         ensures answer { result_and result (Ok tt) ≡ take_reply B.Broadcast C.Consensus (model B.Broadcast C.Consensus self.now) card }
-        ensures decided { IfOk result (λ s. (card < 6) × (bits s ≡ number_in (decision_at B.Broadcast C.Consensus (model B.Broadcast C.Consensus self.now) card))) }
+        ensures decided { IfOk result (λ s. (card < 6) × (s ≡ number_in (decision_at B.Broadcast C.Consensus (model B.Broadcast C.Consensus self.now) card))) }
     {
-        if card >= self.card_count() {
-            return Err(Refusal::NoSuchCard);
-        }
-        if self.broadcast.has_crashed(card) {
-            return Err(Refusal::CardCrashed);
-        }
+        acting(card < self.card_count(), self.broadcast.has_crashed(card))?;
         self.consensus
             .decision_of(self.instance(card), card)
             .ok_or(Refusal::NothingDecided)
+    }
+}
+
+// A card acts only if it is there and runs.
+pub(super) fn acting(there: bool, crashed: bool) -> Result<(), Refusal>
+    ensures { result ≡ (if there then if crashed then Err CardCrashed else Ok tt else Err NoSuchCard) }
+{
+    match (there, crashed) {
+        (false, _) => Err(Refusal::NoSuchCard),
+        (true, true) => Err(Refusal::CardCrashed),
+        (true, false) => Ok(()),
     }
 }
 

@@ -1,7 +1,6 @@
-ghost use Rattle.std.specs.Prelude.{◌≡◌, ℕ, length, IfOk};
+ghost use Rattle.std.specs.Prelude.{◌≡◌, length, IfOk};
 ghost use Rattle.logs.specs.Orders.{in_ranking_order, RankingOrder};
-ghost use Rattle.total_order.specs.Carrying.{with_parts, fresh, cards_of};
-ghost use Rattle.logs.specs.Models.{order_of};
+ghost use Rattle.total_order.specs.Carrying.{fresh, cards_of};
 ghost use Rattle.total_order.specs.Models.{model};
 
 use super::{Carrier, Progress};

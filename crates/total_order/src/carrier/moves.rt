@@ -1,13 +1,10 @@
 // The calls on a carrier other than settle. A refused call changes nothing.
-ghost use Rattle.std.specs.Prelude.{◌≡◌, ℕ, ◌<◌, length, nat_lt, slice_set};
-ghost use Rattle.notes.specs.Models.{bits};
-ghost use Rattle.parts.specs.Refusals.{propose_answer};
-ghost use Rattle.parts.specs.Shown.{told};
-ghost use Rattle.logs.specs.Models.{list_of, order_of};
+ghost use Rattle.std.specs.Prelude.{◌≡◌, ◌<◌, length, nat_lt, slice_set};
 ghost use Rattle.logs.specs.Orders.{appended};
-ghost use Rattle.total_order.specs.Carrying.{one_more, if_accepted, moved, counted, log_at, instance_at, waiting, propose_reply, posting, carrying, losing, crashing, suspecting, proposing, taking};
+ghost use Rattle.total_order.specs.Carrying.{one_more, if_accepted, moved, log_at, instance_at, waiting, propose_reply, posting, carrying, losing, crashing, suspecting, proposing, taking};
 ghost use Rattle.total_order.specs.Models.{model};
 
+use super::cards::acting;
 use super::{Carrier, Progress};
 use crate::call::Wire;
 use logs::ranking::Ranking;
@@ -25,12 +22,10 @@ impl<B: Broadcast, C: Consensus> Carrier<B, C> {
         if self.has_note(note) {
             return self.broadcast.post(card, note);
         }
-        if card >= self.broadcast.card_count() {
-            return Err(Refusal::NoSuchCard);
-        }
-        if self.broadcast.has_crashed(card) {
-            return Err(Refusal::CardCrashed);
-        }
+        acting(
+            card < self.broadcast.card_count(),
+            self.broadcast.has_crashed(card),
+        )?;
         Err(Refusal::NoSuchNote)
     }
 
@@ -47,7 +42,7 @@ impl<B: Broadcast, C: Consensus> Carrier<B, C> {
         Ok(())
     }
 
-    // An item of a wire, from a crashed sender, is lost.
+    // An item of a wire, from a crashed sender, is lost. Written out beside `carry`: to share it, both calls of both parts would go in as closures.
     pub fn lose(&mut self, wire: Wire, item: usize) -> Result<(), Refusal>
         ensures answer { result ≡ (losing B.Broadcast C.Consensus (model B.Broadcast C.Consensus self.old) wire item).answer }
         ensures after { model B.Broadcast C.Consensus self.new ≡ (losing B.Broadcast C.Consensus (model B.Broadcast C.Consensus self.old) wire item).next }
@@ -135,7 +130,7 @@ impl<B: Broadcast, C: Consensus> Carrier<B, C> {
         ensures broadcast { (model B.Broadcast C.Consensus self.new).broadcast ≡ (model B.Broadcast C.Consensus self.old).broadcast }
         ensures consensus { (model B.Broadcast C.Consensus self.new).consensus ≡ (model B.Broadcast C.Consensus self.old).consensus }
         ensures order { (model B.Broadcast C.Consensus self.new).order ≡ (model B.Broadcast C.Consensus self.old).order }
-        ensures log { (model B.Broadcast C.Consensus self.new).logs ≡ slice_set (model B.Broadcast C.Consensus self.old).logs card (appended (model B.Broadcast C.Consensus self.old).order (log_at B.Broadcast C.Consensus (model B.Broadcast C.Consensus self.old) card) (bits decided)) }
+        ensures log { (model B.Broadcast C.Consensus self.new).logs ≡ slice_set (model B.Broadcast C.Consensus self.old).logs card (appended (model B.Broadcast C.Consensus self.old).order (log_at B.Broadcast C.Consensus (model B.Broadcast C.Consensus self.old) card) decided) }
         ensures instances { (model B.Broadcast C.Consensus self.new).instances ≡ slice_set (model B.Broadcast C.Consensus self.old).instances card (one_more (instance_at B.Broadcast C.Consensus (model B.Broadcast C.Consensus self.old) card)) }
         ensures steps { (model B.Broadcast C.Consensus self.new).steps ≡ (model B.Broadcast C.Consensus self.old).steps }
     {
@@ -145,7 +140,7 @@ impl<B: Broadcast, C: Consensus> Carrier<B, C> {
 
 impl Progress {
     fn go_on(&mut self, ranking: &Ranking, decided: NoteSet)
-        ensures log { list_of self.new.log ≡ appended (order_of ranking.now) (list_of self.old.log) (bits decided) }
+        ensures log { self.new.log ≡ appended ranking.now self.old.log decided }
         ensures instance { self.new.instance ≡ one_more self.old.instance }
     {
         self.log.append(ranking, decided);

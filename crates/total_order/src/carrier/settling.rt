@@ -1,6 +1,6 @@
 // Rest, and settle, which goes towards it.
-ghost use Rattle.std.specs.Prelude.{◌≡◌, ℕ, ◌+◌, ◌-◌, ◌<◌, true, None, if◌then◌else◌};
-ghost use Rattle.total_order.specs.Carrying.{taker, proposer, at_rest, take_or_propose, advanced, settled, settle_steps};
+ghost use Rattle.std.specs.Prelude.{◌≡◌};
+ghost use Rattle.total_order.specs.Carrying.{taker, proposer, at_rest, advanced, settled, settle_steps};
 ghost use Rattle.total_order.specs.Models.{model};
 
 use super::Carrier;
@@ -40,6 +40,7 @@ impl<B: Broadcast, C: Consensus> Carrier<B, C> {
         ensures steps { result ≡ settle_steps B.Broadcast C.Consensus limit (model B.Broadcast C.Consensus self.old) }
         ensures after { model B.Broadcast C.Consensus self.new ≡ settled B.Broadcast C.Consensus limit (model B.Broadcast C.Consensus self.old) }
     {
+        // No `find`: each turn that is not the last changes the carrier.
         for made in 0..limit {
             if self.is_at_rest() {
                 return made;
@@ -49,7 +50,7 @@ impl<B: Broadcast, C: Consensus> Carrier<B, C> {
         limit
     }
 
-    // The first possible step.
+    // The first possible step. An `if` for each: they are calls of four kinds, and two need a card that is found first.
     #[tactic(auto, unfolding(crate::specs::Carrying::advanced))]
     fn advance(&mut self)
         ensures { model B.Broadcast C.Consensus self.new ≡ advanced B.Broadcast C.Consensus (model B.Broadcast C.Consensus self.old) }

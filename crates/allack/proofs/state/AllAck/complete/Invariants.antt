@@ -1,7 +1,6 @@
 use Rattle.std.proofs.Common.{◌≡◌}
-use Rattle.notes.specs.Models.{bits}
-use Rattle.allack.specs.AllAck.{all_ack_of, complete}
+use Rattle.allack.specs.AllAck.{complete}
 use Rattle.allack.proofs.state.AllAck.complete.Given as goal
 
 abbrev pub invariant-loop-other : goal.invariant-loop-other
-invariant-loop-other l = bits l.notes ≡ complete (all_ack_of l.self) l.card l.other
+invariant-loop-other l = l.notes ≡ complete l.self l.card l.other
