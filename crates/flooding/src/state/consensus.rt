@@ -108,11 +108,8 @@ impl Consensus for Flooding {
         self.wire.lose(&self.cards, item)
     }
 
-    // A part's own cards and own wire, so each part says it: a function for both would take as many words to call.
     fn crash(&mut self, card: usize) -> Result<(), Refusal> {
-        self.cards.crash(card)?;
-        self.wire.let_go(card);
-        Ok(())
+        self.wire.crash(&mut self.cards, card)
     }
 
     // The suspicion is worked through by ascending instance.
