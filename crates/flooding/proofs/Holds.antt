@@ -17,7 +17,8 @@ use Rattle.histories.proofs.Kept.{moves_make_histories}
 use Rattle.flooding.specs.Seats.{no_seat, new_seats, seat_in}
 use Rattle.flooding.specs.Flooding.{FloodingState, flooding_work, seen, new_flooding, lose_on, crash_on}
 use Rattle.flooding.specs.Made.{fates_of, True, brings, Tied, Underway, MadeFlooding}
-use Rattle.flooding.specs.Keeps.{new_shaped, new_ballot, new_stands, new_settled, up_before, crash_later, crash_items, crash_leaves, crash_moves}
+use Rattle.tables.proofs.Written.{new_shaped}
+use Rattle.flooding.specs.Keeps.{new_ballot, new_stands, new_settled, up_before, crash_later, crash_items, crash_leaves, crash_moves}
 use Rattle.flooding.specs.Sound.{Stands}
 use Rattle.flooding.specs.Leaves.{brings_parts}
 use Rattle.flooding.specs.Means.{loss_is_lost, crash_is_crashed}

@@ -26,7 +26,8 @@ use Rattle.flooding.specs.Flooding.{FloodingState, seat_on, enter_on, decide_on,
 use Rattle.flooding.specs.Made.{fates_of, brings, Underway}
 use Rattle.flooding.specs.Sound.{Stands, Says, SaysIn, TiedSeats, SoundFlooding}
 use Rattle.flooding.specs.Counted.{each_counted}
-use Rattle.flooding.specs.Works.{cell_same, cell_other, shaped_after, may_move_means}
+use Rattle.tables.proofs.Written.{shaped_after}
+use Rattle.flooding.specs.Works.{cell_same, cell_other, may_move_means}
 use Rattle.flooding.specs.Pasts.{Further, no_further, passing_further, then_further, none_beyond}
 use Rattle.flooding.specs.Sits.{Sits, seated_stays, trues_stay, enters, hears, takes_in, hearing_grows, taking_grows, taking_counts}
 use Rattle.flooding.specs.Actions.{Elsewhere, after, action_whole}

@@ -1,5 +1,5 @@
 -- `new` and the calls make floodings that hold together.
-use Rattle.std.specs.Prelude.{◌≡◌, ℕ, zero, suc, ◌^◌, ◌<◌, Bool, true, false, cond, not, ◌&&◌, ◌||◌, ltb, [], ◌∷◌, ◌++◌, replicate, is_some, Some, None, ◌==◌, bit_or, nat_eq, nat_lt, refl, Ok}
+use Rattle.std.specs.Prelude.{◌≡◌, ℕ, zero, suc, ◌^◌, ◌<◌, Bool, true, false, cond, not, ◌&&◌, ◌||◌, ltb, [], ◌∷◌, ◌++◌, is_some, Some, None, ◌==◌, bit_or, nat_eq, nat_lt, refl, Ok}
 use Rattle.std.proofs.Common.{sym, ap, subst, ◌∙◌, inl, inr, ⊎_elim, arith}
 use borrow.Author.Tests.{clash}
 use Rattle.std.proofs.lemmas.Nat.{or_lt}
@@ -13,11 +13,11 @@ use Rattle.parts.specs.Refusals.{propose_answer, carry_answer, lose_answer, cras
 use Rattle.parts.proofs.Accepted.{propose_accepted, crash_accepted, suspect_accepted}
 use Rattle.parts.proofs.Options.{some_held}
 use Rattle.cards.specs.Cards.{CardState, crashed_in, suspects_in, new_cards, with_crash, with_suspicion, SoundCards}
-use Rattle.tables.specs.Tables.{Shaped, new_ballots, ballot_in, with_ballot}
+use Rattle.tables.specs.Tables.{new_ballots, ballot_in, with_ballot}
 use Rattle.wire.specs.Wires.{any_of, elsewhere, without_to}
 use Rattle.wire.specs.declared.Item.{Item}
 use Rattle.wire.proofs.Items.{all_nth, all_left, any_left, any_append}
-use Rattle.cards.proofs.Lists.{same_rows, new_row}
+use Rattle.cards.proofs.Lists.{same_rows}
 use Rattle.cards.proofs.Nets.{new_sound, crash_sound, crash_more, suspect_sound, suspect_more}
 use Rattle.wire.proofs.Taken.{carried_item, lost_item}
 use Rattle.histories.specs.Moves.{Later, beginning, proposing}
@@ -30,7 +30,8 @@ use Rattle.flooding.specs.Flooding.{FloodingState, flooding_work, seen, new_floo
 use Rattle.flooding.specs.Made.{fates_of, brings, Underway}
 use Rattle.flooding.specs.Sound.{Stands, Says, SaysIn, TiedSeats, SoundFlooding, SettledFlooding}
 use Rattle.flooding.specs.Mails.{hearing_round}
-use Rattle.flooding.specs.Works.{cell_same, cell_other, shaped_after}
+use Rattle.tables.proofs.Written.{new_shaped, shaped_after}
+use Rattle.flooding.specs.Works.{cell_same, cell_other}
 use Rattle.flooding.specs.Pasts.{proposing_further, none_beyond}
 use Rattle.flooding.specs.Sits.{hearing_counts}
 use Rattle.flooding.specs.Actions.{Elsewhere, here_or_elsewhere}
@@ -39,9 +40,6 @@ use Rattle.flooding.specs.Steps.{Running, seat_stays, enter_stays, settles, goes
 use Rattle.flooding.specs.Leaves.{brings_parts, Accounted, leave_whole}
 
 -- A new one.
-
-pub new_shaped : {X : Type 0} (d : X) → Shaped (replicate 32 (replicate 6 d))
-new_shaped d = record { instances = refl; row = λ k h. new_row 32 k (replicate 6 d) h }
 
 pub new_seat : (k p : ℕ) → seat_in new_seats k p ≡ no_seat
 new_seat k p = same_rows 32 6 k p no_seat

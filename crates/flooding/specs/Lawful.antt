@@ -1,10 +1,9 @@
 -- What is certain of every flooding that is made: decisions were proposed, are equal, and come when it is quiet.
 use Rattle.std.specs.List.{AllByRecursion}
-use Rattle.std.specs.Prelude.{◌≡◌, ℕ, zero, suc, ◌^◌, ◌<◌, ◌≤◌, true, false, ◌⊎◌, List, [], is_some, Some, None, Option, ◌≢◌, slice_index_or}
+use Rattle.std.specs.Prelude.{◌≡◌, ℕ, zero, suc, ◌^◌, ◌<◌, ◌≤◌, true, false, ◌⊎◌, List, is_some, Some, None, Option, ◌≢◌}
 use Rattle.std.proofs.Common.{sym, ap, subst, ◌∙◌, inl, ⊎_elim, arith}
 use borrow.Author.Tests.{clash}
 use Rattle.std.proofs.ByRecursion.{All-map, All-weaker}
-use Rattle.std.proofs.lemmas.List.{get_or_past}
 use Rattle.std.proofs.lemmas.Bool.{cases_Bool, cases_lt, cases_eq, cond-true, cond-false, and_from, or_left, or_right, not_from_false, lt-ltb, ltb-true, both_ways}
 use Rattle.notes.specs.Sets.{has, low}
 use Rattle.notes.proofs.Bits.{same_sets}
@@ -15,6 +14,7 @@ use Rattle.cards.specs.Cards.{crashed_in, SoundCards}
 use Rattle.tables.specs.Tables.{Shaped, ballot_in}
 use Rattle.wire.specs.Wires.{senders, any_of}
 use Rattle.tables.proofs.Changes.{nothing_left}
+use Rattle.tables.proofs.Written.{instance_below}
 use Rattle.cards.proofs.Nets.{lawful_net}
 use Rattle.wire.proofs.Wires.{length_senders}
 use Rattle.histories.specs.Histories.{Past, History, Left}
@@ -27,9 +27,6 @@ use Rattle.flooding.specs.Flooding.{FloodingState, flooding_work, seen, proposal
 use Rattle.flooding.specs.Made.{fates_of, brings, Underway}
 use Rattle.flooding.specs.Sound.{Stands, SettledFlooding}
 use Rattle.flooding.specs.Counted.{all_from_each}
-
-pub instance_below : (t : List (List (Option ℕ))) (k p : ℕ) → Shaped t → is_some (ballot_in t k p) ≡ true → k < 32
-instance_below t k p g h = ⊎_elim (λ l. l) (λ l. absurd (clash (sym (ap (λ r. is_some (slice_index_or {A = Option ℕ} r p None)) (get_or_past t k [] (omega (arith, g.instances)))) ∙ h))) (cases_lt k 32)
 
 pub some_proposal : (t : List (List (Option ℕ))) (k s : ℕ) (o : Option ℕ) → proposal_of t k o ≡ Some s → (q : ℕ) × (ballot_in t k q ≡ Some s)
 some_proposal t k s None e = absurd (clash (ap is_some e))

@@ -14,7 +14,7 @@ use Rattle.tables.specs.Tables.{ballot_in}
 use Rattle.wire.specs.Wires.{senders, elsewhere}
 use Rattle.wire.specs.declared.Item.{Item}
 use Rattle.wire.proofs.Items.{all_nth, part_left, length_left}
-use Rattle.cards.proofs.Lists.{same_all, same_rows, row_written}
+use Rattle.cards.proofs.Lists.{same_all, same_rows}
 use Rattle.cards.proofs.Nets.{same_cards, net_crashed, net_suspected, crash_more}
 use Rattle.wire.proofs.Taken.{carried_item, lost_item, senders_removed}
 use Rattle.flooding.specs.Seats.{no_seat, new_seats, seat_in, entering}
@@ -23,7 +23,8 @@ use Rattle.flooding.specs.declared.mail.Load.{Load}
 use Rattle.flooding.specs.Flooding.{FloodingState, total, to_send, flooding_work, seen, new_flooding, enter_on, put_forward, propose_on, arrive_on, lose_on, carry_on, crash_on, doubt_on, suspect_on}
 use Rattle.flooding.specs.Made.{Underway}
 use Rattle.flooding.specs.Sound.{SettledFlooding}
-use Rattle.flooding.specs.Works.{shaped_after, total_below, enter_work}
+use Rattle.tables.proofs.Written.{place_written, shaped_after}
+use Rattle.flooding.specs.Works.{total_below, enter_work}
 use Rattle.flooding.specs.Changes.{DecidedBy, Placed, steps_moved, through_moved, arrive_moved}
 
 total_none : (f : ℕ → ℕ) (m : ℕ) → ((k : ℕ) → f k ≡ 0) → total f m ≡ 0
@@ -84,7 +85,7 @@ propose_means x k p s g fits h =
       work_rises_by_bound = omega (arith, m.work);
       proposal_stands = λ j q.
           ap (λ t. ballot_in t j q) m.proposals
-          ∙ row_written x.proposals k p j q (Some s) None (omega (arith, g.whole.proposals_shaped.instances, f.3)) (omega (arith, g.whole.proposals_shaped.row k f.3, f.0));
+          ∙ place_written x.proposals k p j q (Some s) None g.whole.proposals_shaped f.3 (omega (arith, few, f.0));
       decided_more = decides_more x after p f.1 m.decided;
     }
 

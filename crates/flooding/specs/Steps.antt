@@ -11,7 +11,8 @@ use Rattle.flooding.specs.Mail.{taking_in}
 use Rattle.flooding.specs.Flooding.{FloodingState, seat_on, enter_on, decide_on, proposal_of, may_move, move_on, step_on, steps_on, settle_on, through_on}
 use Rattle.flooding.specs.Sound.{stage_from, SoundFlooding}
 use Rattle.flooding.specs.Mails.{taking_round}
-use Rattle.flooding.specs.Works.{cell_same, cell_other, shaped_after, may_move_means, step_cards}
+use Rattle.tables.proofs.Written.{shaped_after}
+use Rattle.flooding.specs.Works.{cell_same, cell_other, may_move_means, step_cards}
 use Rattle.flooding.specs.Actions.{Elsewhere}
 use Rattle.flooding.specs.Enters.{next_whole, choice, decide_whole}
 

@@ -1,12 +1,12 @@
 -- A move does not raise the work: what entering a round sends, it had still to send.
 use Rattle.std.specs.Prelude.{◌≡◌, ℕ, zero, suc, ◌+◌, ◌-◌, ◌*◌, ◌<◌, ◌≤◌, true, false, cond, not, ◌&&◌, List, [], is_some, ◌==◌, ◌≢◌, nat_lt, slice_index_or, slice_set, refl}
-use Rattle.std.proofs.Common.{sym, ap, subst, ◌∙◌, ⊎_elim, arith, length-set}
+use Rattle.std.proofs.Common.{sym, ap, subst, ◌∙◌, ⊎_elim, arith}
 use Rattle.std.proofs.lemmas.List.{length-append}
 use Rattle.std.proofs.lemmas.Bool.{cases_Bool, cases_eq, cond-true, cond-false, cond_both, and_parts, and_from, eqb-true, eq-eqb, ltb-true, lt-ltb, not_from_false, not-true}
 use Rattle.tables.specs.Tables.{Shaped, ballot_in}
 use Rattle.cards.specs.Cards.{CardState, crashed_in}
 use Rattle.wire.specs.Wires.{sent}
-use Rattle.cards.proofs.Lists.{row_written, rows_kept}
+use Rattle.tables.proofs.Written.{place_written, shaped_after}
 use Rattle.wire.proofs.Wires.{length_sent_others}
 use Rattle.flooding.specs.Seats.{no_seat, seat_in, with_seat, entering, all_counted}
 use Rattle.flooding.specs.declared.seats.Seat.{Seat}
@@ -19,16 +19,12 @@ use Rattle.flooding.specs.Mails.{taking_round}
 
 pub cell_same : {X : Type 0} (t : List (List X)) (k q : ℕ) (v d : X) → Shaped t → k < 32 → q < 6 → slice_index_or (slice_index_or (slice_set t k (slice_set (slice_index_or t k []) q v)) k []) q d ≡ v
 cell_same t k q v d g hk hq =
-    row_written t k q k q v d (omega (arith, g.instances)) (omega (arith, g.row k hk)) ∙ cond-true _ _ _ (and_from _ _ (eq-eqb k k refl) (eq-eqb q q refl))
+    place_written t k q k q v d g hk hq ∙ cond-true _ _ _ (and_from _ _ (eq-eqb k k refl) (eq-eqb q q refl))
 
 pub cell_other : {X : Type 0} (t : List (List X)) (k q j p : ℕ) (v d : X) → Shaped t → k < 32 → q < 6 → ((j ≡ k) × (p ≡ q) → ⊥) → slice_index_or (slice_index_or (slice_set t k (slice_set (slice_index_or t k []) q v)) j []) p d ≡ slice_index_or (slice_index_or t j []) p d
 cell_other t k q j p v d g hk hq e =
-    row_written t k q j p v d (omega (arith, g.instances)) (omega (arith, g.row k hk))
+    place_written t k q j p v d g hk hq
     ∙ ⊎_elim (λ b. absurd (let h = and_parts (j == k) (p == q) b in e (eqb-true j k h.0, eqb-true p q h.1))) (λ b. cond-false _ _ _ b) (cases_Bool (j == k && p == q))
-
--- A table that is written keeps its shape.
-pub shaped_after : {X : Type 0} (t : List (List X)) (k q : ℕ) (v : X) → Shaped t → k < 32 → Shaped (slice_set t k (slice_set (slice_index_or t k []) q v))
-shaped_after t k q v g hk = record { instances = simp length-set g.instances; row = rows_kept t 32 6 k q v (omega (arith, g.instances)) g.row }
 
 -- Sums, where one part falls and none rises.
 
