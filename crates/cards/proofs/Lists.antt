@@ -1,6 +1,5 @@
 -- Tables as lists: what is read after a write, and in a new table.
-use Rattle.std.proofs.Common.{◌≡◌, ℕ, zero, suc, ◌<◌, ◌≤◌, cond, ◌&&◌, eqb, ◌⊎◌, List, [], ◌∷◌, map, length, get_or, set, replicate, sym, refl, ap, ◌∙◌, subst, ⊎_elim, arith, length-set, get_or-set_other, get_or-set_same}
-use Rattle.std.proofs.lemmas.List.{map-set, set_past, set-get_or}
+use Rattle.std.proofs.Common.{◌≡◌, ℕ, zero, suc, ◌<◌, cond, ◌&&◌, eqb, List, [], ◌∷◌, map, length, get_or, set, replicate, sym, refl, ap, ◌∙◌, subst, ⊎_elim, arith, length-set, get_or-set_other, get_or-set_same}
 use Rattle.std.proofs.lemmas.Bool.{cases_eq, eqb-true, eq-eqb, ne_eqb, cond-true, cond-false, cond_both}
 
 -- A write changes its own place only.
@@ -32,19 +31,6 @@ pub get_d_map_at : {X Y : Type 0} (f : X → Y) (xs : List X) (i : ℕ) (d : X) 
 get_d_map_at f [] i d = refl
 get_d_map_at f (x ∷ xs) zero d = refl
 get_d_map_at f (x ∷ xs) (suc i) d = get_d_map_at f xs i d
-
-pub write_rows : {X Y : Type 0} (f : X → Y) (rows : List (List X)) (k p : ℕ) (a : X)
-    → map (map f) (set rows k (set (get_or rows k []) p a)) ≡ set (map (map f) rows) k (set (get_or (map (map f) rows) k []) p (f a))
-write_rows f rows k p a =
-    map-set (map f) rows k (set (get_or rows k []) p a)
-    ∙ ap (set (map (map f) rows) k) (map-set f (get_or rows k []) p a ∙ ap (λ r. set r p (f a)) (sym (get_d_map_at (map f) rows k [])))
-
--- A write past the end of a table of rows changes nothing.
-pub write_past : {X : Type 0} (rows : List (List X)) (n k p : ℕ) (a : X) → ((k < n) × (length (get_or rows k []) ≤ p)) ⊎ (length rows ≤ k) → set rows k (set (get_or rows k []) p a) ≡ rows
-write_past rows n k p a =
-    ⊎_elim
-    (λ h. ap (set rows k) (set_past (get_or rows k []) p a h.1) ∙ set-get_or rows k [])
-    (λ h. set_past rows k (set (get_or rows k []) p a) h)
 
 -- A write into a row changes its own place only, and no length.
 pub row_written : {X : Type 0} (rows : List (List X)) (q p a b : ℕ) (v d : X) → q < length rows → p < length (get_or rows q [])

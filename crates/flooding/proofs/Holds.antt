@@ -1,25 +1,25 @@
 -- That `new`, a loss and a crash make floodings which hold together as a whole, and what a loss and a crash mean of such a one.
-use Rattle.std.proofs.Common.{◌≡◌, ℕ, suc, true, false, cond, not, ◌&&◌, ◌||◌, eqb, ltb, is_some, None, sym, refl, ap, ◌∙◌, subst, inl, inr, ⊎_elim, arith, Ok}
+use Rattle.std.proofs.Common.{◌≡◌, ℕ, true, false, is_some, None, sym, ap, ◌∙◌, subst, inl, inr, ⊎_elim, arith, Ok}
 use borrow.Author.Tests.{clash}
-use Rattle.std.proofs.lemmas.Bool.{and_left, and_right, or_parts, or_cases, eqb-false, ne_eqb, not-true, not_from_false, both_ways}
-use Rattle.notes.specs.Sets.{has}
-use Rattle.notes.proofs.Bits.{has_none}
+use Rattle.std.proofs.lemmas.Bool.{or_cases, both_ways}
 use Rattle.parts.specs.Refusals.{lose_answer, crash_answer}
 use Rattle.parts.specs.Deciding.{Lost, Crashed}
 use Rattle.parts.proofs.Accepted.{crash_accepted}
 use Rattle.cards.specs.Cards.{crashed_in, new_cards, with_crash}
 use Rattle.tables.specs.Tables.{new_ballots, ballot_in}
 use Rattle.wire.specs.Wires.{elsewhere}
-use Rattle.wire.proofs.Items.{all_removed, all_left, any_split, any_left}
+use Rattle.wire.proofs.Items.{all_removed, all_left, any_split}
 use Rattle.cards.proofs.Lists.{same_rows}
-use Rattle.cards.proofs.Nets.{new_sound, crash_sound, crash_more}
+use Rattle.cards.proofs.Nets.{new_sound, crash_sound}
 use Rattle.wire.proofs.Taken.{lost_item}
-use Rattle.histories.specs.Moves.{Later, beginning}
+use Rattle.histories.specs.Moves.{beginning}
 use Rattle.histories.proofs.Kept.{moves_make_histories}
-use Rattle.flooding.specs.Seats.{SeatState, no_seat, new_seats, seat_in, all_counted}
+use Rattle.flooding.specs.Seats.{no_seat, new_seats, seat_in}
 use Rattle.flooding.specs.Flooding.{FloodingState, flooding_work, seen, new_flooding, lose_on, crash_on}
 use Rattle.flooding.specs.Made.{fates_of, True, brings, Tied, Underway, MadeFlooding}
-use Rattle.flooding.specs.Keeps.{new_shaped, new_seat, new_ballot, same_counted}
+use Rattle.tables.proofs.Written.{new_shaped}
+use Rattle.flooding.specs.Keeps.{new_ballot, new_stands, new_settled, up_before, crash_later, crash_items, crash_leaves, crash_moves}
+use Rattle.flooding.specs.Sound.{Stands}
 use Rattle.flooding.specs.Leaves.{brings_parts}
 use Rattle.flooding.specs.Means.{loss_is_lost, crash_is_crashed}
 
@@ -28,22 +28,22 @@ use Rattle.flooding.specs.Means.{loss_is_lost, crash_is_crashed}
 new_tied : (n k : ℕ) → Tied (new_flooding n) k
 new_tied n k =
     let c = new_cards n in
+    let stands : (p : ℕ) → Stands c.count beginning new_ballots k p (ballot_in new_ballots k p) (seat_in new_seats k p) = new_stands c.count k in
     record {
       past = beginning;
       history = (moves_make_histories c.count).beginning_is (fates_of c) (λ p y. same_rows 6 6 p y false);
-      stages = λ p b. sym (ap (λ o. cond (is_some o) (suc c.count) (seat_in new_seats k p).round) (new_ballot k p) ∙ ap (λ (s : SeatState). s.round) (new_seat k p));
-      proposed = λ p b. ap is_some (new_ballot k p) ∙ sym (ap (λ (s : SeatState). ltb 0 s.round) (new_seat k p));
-      in_rounds = λ p. rw (new_seat k p) (omega arith);
-      fits = λ p. rw (new_seat k p) (omega arith);
-      counts = λ p y b d. ap (λ (s : SeatState). has s.counted y) (new_seat k p) ∙ has_none y;
-      self_counted = λ p b o. absurd (let z : (seat_in new_seats k p).round ≡ 0 = ap (λ (s : SeatState). s.round) (new_seat k p) in omega arith);
-      knows = λ p z b o. absurd (let e : (seat_in new_seats k p).round ≡ 0 = ap (λ (s : SeatState). s.round) (new_seat k p) in omega arith);
+      stages = λ p b. (stands p).stage;
+      proposed = λ p b. (stands p).proposed;
+      in_rounds = λ p. (stands p).seated.in_rounds;
+      fits = λ p. (stands p).seated.fits;
+      counts = λ p y b. (stands p).seated.counts y;
+      self_counted = λ p b. (stands p).self_counted;
+      knows = λ p z b. (stands p).seated.knows z;
       decided = λ p s e. absurd (clash (ap is_some (sym (new_ballot k p) ∙ e)));
       wire_true = tt;
       kept_true = tt;
       due = λ p q r bp bq d up uq o l h m. absurd (omega arith);
-      settled = λ p b u.
-          and_right (ltb p c.count) _ (and_right (not (is_some (ballot_in new_ballots k p))) _ (and_left (ltb 0 (seat_in new_seats k p).round) (all_counted c p (seat_in new_seats k p) c.count) (ap (λ (s : SeatState). ltb 0 s.round) (new_seat k p))));
+      settled = λ p b u. new_settled n k p;
     }
 
 pub new_made : (n : ℕ) → MadeFlooding (new_flooding n)
@@ -104,29 +104,23 @@ lose_made x i g h =
 
 pub crash_made : (x : FloodingState) (p : ℕ) → MadeFlooding x → crash_answer (seen x).net p ≡ Ok tt → MadeFlooding (crash_on x p)
 crash_made x p g h =
+    let s = g.sound in
     let f = crash_accepted (seen x).net p h in
     let c = x.cards in
-    let before : (q : ℕ) → crashed_in (with_crash c p) q ≡ false → (eqb q p ≡ false) × (crashed_in c q ≡ false) = λ q u. or_parts _ _ (sym (crash_more c p q g.sound f.0) ∙ u) in
-    let later : Later (fates_of c) (fates_of (with_crash c p)) =
+    let before = up_before x p s f.0 in
     record {
-      crashed_stay = λ q e. not_from_false _ (before q (not-true _ e)).1;
-      suspicions_stay = λ q y e. e;
-      new_crashed = λ q y e. inl e;
-    } in
-    record {
-      sound = crash_sound c p g.sound f.0;
+      sound = crash_sound c p s f.0;
       proposals_shaped = g.proposals_shaped;
       decisions_shaped = g.decisions_shaped;
       seats_shaped = g.seats_shaped;
       proposers = g.proposers;
       proposed_sets = g.proposed_sets;
-      items = all_left (Underway c) (Underway (with_crash c p)) (elsewhere p) x.wire
-          (λ y u e. record { instance_fits = u.instance_fits; sender = u.sender; receiver = u.receiver; up = crash_more c p y.to g.sound f.0 ∙ ap (λ b. b || crashed_in c y.to) (not-true _ e) ∙ u.up }) g.items;
+      items = crash_items x p s f.0 g.items;
       tied = λ k l.
           let t = g.tied k l in
           record {
             past = t.past;
-            history = (moves_make_histories c.count).later_keeps (fates_of c) (fates_of (with_crash c p)) t.past t.history later;
+            history = (moves_make_histories c.count).later_keeps (fates_of c) (fates_of (with_crash c p)) t.past t.history (crash_later x p s f.0);
             stages = t.stages;
             proposed = t.proposed;
             in_rounds = t.in_rounds;
@@ -137,13 +131,8 @@ crash_made x p g h =
             decided = t.decided;
             wire_true = all_left (λ z. z.load.instance ≡ k → True c.count t.past k z) (λ z. z.load.instance ≡ k → True c.count t.past k z) (elsewhere p) x.wire (λ y e _. e) t.wire_true;
             kept_true = t.kept_true;
-            due = λ a q r ba bq d ua uq o m ha hq.
-                ⊎_elim
-                (λ w. inl (any_left (brings k r a q) (elsewhere p) x.wire
-                (λ y b. not_from_false _ (ne_eqb y.to p (λ z. eqb-false q p (before q uq).0 (sym (brings_parts k r a q y b).1 ∙ z)))) w))
-                (λ e. inr e)
-                (t.due a q r ba bq d (before a ua).1 (before q uq).1 o m ha hq);
-            settled = λ q b u. ap (λ w. ltb q c.count && (not (is_some (ballot_in x.decisions k q)) && (ltb 0 (seat_in x.seats k q).round && w))) (same_counted c (with_crash c p) q (seat_in x.seats k q) c.count (λ y. refl)) ∙ t.settled q b (before q u).1;
+            due = λ a q r ba bq d ua uq o m ha hq. ⊎_elim (λ w. inl (crash_leaves x p s f.0 k r a q uq w)) (λ e. inr e) (t.due a q r ba bq d (before a ua).1 (before q uq).1 o m ha hq);
+            settled = λ q b u. crash_moves x p k q ∙ t.settled q b (before q u).1;
           };
     }
 

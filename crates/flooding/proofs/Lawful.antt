@@ -1,115 +1,28 @@
--- What is certain of every flooding that is made: decisions were proposed, are equal, and come when it is quiet.
-use Rattle.std.proofs.Common.{◌≡◌, ℕ, zero, suc, ◌<◌, ◌≤◌, true, false, ◌⊎◌, is_some, Some, sym, ap, ◌∙◌, subst, inl, ⊎_elim, arith}
-use borrow.Author.Tests.{clash}
-use Rattle.std.proofs.ByRecursion.{All-map, All-weaker}
-use Rattle.std.proofs.lemmas.Bool.{cases_Bool, cases_lt, cases_eq, cond-true, cond-false, and_from, or_left, or_right, not_from_false, lt-ltb, ltb-true, both_ways}
-use Rattle.notes.specs.Sets.{has, low}
-use Rattle.notes.proofs.Bits.{same_sets}
-use Rattle.parts.specs.Views.{Runs, Quiet}
+-- What is certain of every flooding that holds together as a whole.
 use Rattle.parts.specs.Deciding.{Lawful}
 use Rattle.parts.proofs.Options.{some_held}
-use Rattle.cards.specs.Cards.{crashed_in}
 use Rattle.tables.specs.Tables.{ballot_in}
-use Rattle.wire.specs.Wires.{senders, any_of}
-use Rattle.tables.proofs.Changes.{nothing_left}
-use Rattle.cards.proofs.Nets.{lawful_net}
-use Rattle.wire.proofs.Wires.{length_senders}
-use Rattle.histories.specs.Histories.{Left}
-use Rattle.histories.specs.Moves.{heard_of}
-use Rattle.histories.proofs.Agrees.{agreement}
-use Rattle.histories.proofs.Heard.{heard_knew}
-use Rattle.flooding.specs.Seats.{SeatState, seat_in, accounted_for}
-use Rattle.flooding.specs.Flooding.{FloodingState, flooding_work, seen, proposal_of, may_move}
-use Rattle.flooding.specs.Made.{fates_of, brings, Tied, Underway, MadeFlooding}
-use Rattle.flooding.specs.Counted.{all_from_each}
-use Rattle.flooding.specs.Lawful.{instance_below, some_proposal, same_some}
-
-module _ (x : FloodingState) (k : ℕ) (g : Tied x k) where
-  decided_stage : (p s : ℕ) → ballot_in x.decisions k p ≡ Some s → g.past.round p ≡ suc x.cards.count
-  decided_stage p s e = g.stages p (g.decided p s e).0 ∙ cond-true _ _ _ (ap is_some e)
-
-  -- What a card knows that has decided is what it knew when it left the last round.
-  known_at_end : (p s z : ℕ) → ballot_in x.decisions k p ≡ Some s → has (seat_in x.seats k p).known z ≡ g.past.knew p (suc x.cards.count) z
-  known_at_end p s z e =
-      let n : ℕ = x.cards.count in
-      let d = g.decided p s e in
-      let st : g.past.round p ≡ suc n = decided_stage p s e in
-      let left : Left n g.past p n = record { card = d.0; begun = omega (arith, d.0); gone = omega arith } in
-      g.knows p z d.0 (omega (arith, d.0, d.1.0)) ∙ ap (λ r. heard_of n g.past p r z) d.1.0 ∙ heard_knew n (fates_of x.cards) g.past g.history p n z left
-
-  same_decisions : (p q s t : ℕ) → ballot_in x.decisions k p ≡ Some s → ballot_in x.decisions k q ≡ Some t → s ≡ t
-  same_decisions p q s t e f =
-      let n : ℕ = x.cards.count in
-      let a = g.decided p s e in
-      let b = g.decided q t f in
-      let same : (seat_in x.seats k p).known ≡ (seat_in x.seats k q).known =
-      same_sets _ _ (λ z. known_at_end p s z e ∙ agreement n (fates_of x.cards) g.past g.history p q a.0 b.0 (decided_stage p s e) (decided_stage q t f) z ∙ sym (known_at_end q t z f)) in
-      same_some s t (sym a.1.1 ∙ ap (λ m. proposal_of x.proposals k (low m)) same ∙ b.1.1)
-
-  decided_proposed : (p : ℕ) → is_some (ballot_in x.decisions k p) ≡ true → is_some (ballot_in x.proposals k p) ≡ true
-  decided_proposed p h =
-      let o = some_held (ballot_in x.decisions k p) h in
-      let d = g.decided p o.0 o.1 in
-      g.proposed p d.0 ∙ lt-ltb 0 (seat_in x.seats k p).round (omega (arith, d.0, d.1.0))
-
-  -- The rest law: a running card in the lowest round of all would have counted everybody.
-  module _ (quiet : Quiet (seen x).net) (all : (p : ℕ) → Runs (seen x).net p → is_some (ballot_in x.proposals k p) ≡ true) where
-    nothing_comes : (r p q : ℕ) → any_of (brings k r p q) x.wire ≡ true → ⊥
-    nothing_comes r p q h = clash (ap (any_of (brings k r p q)) (sym (nothing_left x.wire quiet.empty)) ∙ h)
-
-    stuck : (p : ℕ) → p < x.cards.count → crashed_in x.cards p ≡ false → g.past.round p ≤ x.cards.count
-        → ((q : ℕ) → q < x.cards.count → crashed_in x.cards q ≡ false → g.past.round p ≤ g.past.round q) → ⊥
-    stuck p b u l low =
-        let n : ℕ = x.cards.count in
-        let s : SeatState = seat_in x.seats k p in
-        let runs : Runs (seen x).net p = record { card = b; up = u } in
-        let undecided : is_some (ballot_in x.decisions k p) ≡ false =
-        ⊎_elim (λ e. absurd (let z : g.past.round p ≡ suc n = g.stages p b ∙ cond-true _ _ _ e in omega arith)) (λ e. e) (cases_Bool (is_some (ballot_in x.decisions k p))) in
-        let st : g.past.round p ≡ s.round = g.stages p b ∙ cond-false _ _ _ undecided in
-        let o : 0 < s.round = ltb-true 0 s.round (sym (g.proposed p b) ∙ all p runs) in
-        let heard : (y : ℕ) → y < n → (p ≡ y → ⊥) → crashed_in x.cards y ≡ false → has s.counted y ≡ true =
-        λ y c d v.
-        g.counts p y b c
-        ∙ ⊎_elim (λ w. absurd (nothing_comes s.round y p w)) (λ e. ⊎_elim (λ i. absurd (let j = i.0 in omega arith)) (λ i. i) e)
-        (g.due y p s.round c b d v u o (g.in_rounds p) (let j = low y c v in omega arith) (omega arith)) in
-        let each : (y : ℕ) → y < n → accounted_for x.cards p s y ≡ true =
-        λ y c.
-        ⊎_elim
-        (λ v. or_left _ _ (quiet.known p y runs c v))
-        (λ v. or_right _ _ (⊎_elim (λ (e : p ≡ y). subst (λ z. has s.counted z ≡ true) e (g.self_counted p b o)) (λ d. heard y c d v) (cases_eq p y)))
-        (cases_Bool (crashed_in x.cards y)) in
-        both_ways (may_move x k p) (g.settled p b u)
-        (and_from _ _ (lt-ltb p n b) (and_from _ _ (not_from_false _ undecided) (and_from _ _ (lt-ltb 0 s.round o) (all_from_each x.cards p s n each))))
-
-    reach : (r : ℕ) → r ≤ suc x.cards.count → (p : ℕ) → p < x.cards.count → crashed_in x.cards p ≡ false → r ≤ g.past.round p
-    reach zero l p b u = omega arith
-    reach (suc r) l p b u =
-        ⊎_elim
-        (λ h. h)
-        (λ h. absurd (stuck p b u (omega arith) (λ q c v. let j = reach r (omega arith) q c v in omega arith)))
-        (cases_lt r (g.past.round p))
-
-    all_decided : (p : ℕ) → Runs (seen x).net p → is_some (ballot_in x.decisions k p) ≡ true
-    all_decided p r =
-        let n : ℕ = x.cards.count in
-        let h = reach (suc n) (omega arith) p r.card r.up in
-        ⊎_elim
-        (λ e. e)
-        (λ e. absurd (let z : g.past.round p ≡ (seat_in x.seats k p).round = g.stages p r.card ∙ cond-false _ _ _ e in omega (arith, g.in_rounds p)))
-        (cases_Bool (is_some (ballot_in x.decisions k p)))
+use Rattle.flooding.specs.Flooding.{FloodingState, seen}
+use Rattle.flooding.specs.Made.{MadeFlooding}
+use Rattle.flooding.specs.Lawful.{laws_from}
 
 pub lawful : (x : FloodingState) → MadeFlooding x → Lawful (seen x)
-lawful x g =
+lawful x m =
+    laws_from x m.sound m.proposals_shaped m.decisions_shaped m.proposers m.proposed_sets m.items
+    (λ k hk.
+    let g = m.tied k hk in
     record {
-      net = lawful_net x.cards (senders x.wire) (flooding_work x) g.sound
-          (All-map (λ s. (s < x.cards.count) ⊎ (s ≡ 7)) (λ y. y.from) x.wire (All-weaker (Underway x.cards) (λ y. (y.from < x.cards.count) ⊎ (y.from ≡ 7)) (λ y u. inl u.sender) x.wire g.items))
-          (omega (arith, length_senders x.wire));
-      instances_below_32 = λ k p h. instance_below x.proposals k p g.proposals_shaped h;
-      proposers_are_cards = g.proposers;
-      proposals_not_empty = λ k p s h. (g.proposed_sets k p s h).0;
-      proposals_fit_32_bits = λ k p s h. (g.proposed_sets k p s h).1;
-      decided_have_proposed = λ k p h. decided_proposed x k (g.tied k (instance_below x.decisions k p g.decisions_shaped h)) p h;
-      decisions_were_proposed = λ k p s h. some_proposal x.proposals k s (low (seat_in x.seats k p).known) ((g.tied k (instance_below x.decisions k p g.decisions_shaped (ap is_some h))).decided p s h).1.1;
-      decisions_equal = λ k p q s t hs ht. same_decisions x k (g.tied k (instance_below x.decisions k p g.decisions_shaped (ap is_some hs))) p q s t hs ht;
-      quiet_all_decided = λ q k all p r. all_decided x k (g.tied k (instance_below x.proposals k p g.proposals_shaped (all p r))) q all p r;
-    }
+      past = g.past;
+      history = g.history;
+      stands = λ p b.
+          record {
+            stage = g.stages p b;
+            proposed = g.proposed p b;
+            seated = record { in_rounds = g.in_rounds p; fits = g.fits p; counts = λ y. g.counts p y b; knows = λ z. g.knows p z b };
+            self_counted = g.self_counted p b;
+            decided = λ v e. (g.decided p v e).1;
+          };
+      deciders = λ p h. let o = some_held (ballot_in x.decisions k p) h in (g.decided p o.0 o.1).0;
+      due = g.due;
+      settled = g.settled;
+    })

@@ -4,14 +4,15 @@ use Rattle.std.proofs.Common.{sym, ap, subst, ◌∙◌, inl, inr, ⊎_elim, ari
 use Rattle.std.specs.List.{AllByRecursion}
 use Rattle.std.proofs.lemmas.Bool.{cases_eq, cases_lt}
 use Rattle.cards.specs.Cards.{crashed_in}
-use Rattle.tables.specs.Tables.{ballot_in}
+use Rattle.tables.specs.Tables.{Shaped, ballot_in}
 use Rattle.wire.specs.Wires.{any_of}
 use Rattle.wire.specs.declared.Item.{Item}
 use Rattle.histories.specs.Histories.{Past, History}
-use Rattle.flooding.specs.Seats.{SeatState, seat_in}
-use Rattle.flooding.specs.Mail.{LoadState}
+use Rattle.flooding.specs.Seats.{seat_in}
+use Rattle.flooding.specs.declared.seats.Seat.{Seat}
+use Rattle.flooding.specs.declared.mail.Load.{Load}
 use Rattle.flooding.specs.Flooding.{FloodingState, proposal_of}
-use Rattle.flooding.specs.Made.{Shaped, fates_of, brings, Underway}
+use Rattle.flooding.specs.Made.{fates_of, brings, Underway}
 use Rattle.flooding.specs.Sound.{Stands, SaysIn, TiedSeats, SoundFlooding}
 use Rattle.flooding.specs.Pasts.{Further, round_grows}
 use Rattle.flooding.specs.Sits.{seated_stays, trues_stay}
@@ -24,11 +25,11 @@ pub here_or_elsewhere : (k q j p : ℕ) → ((j ≡ k) × (p ≡ q)) ⊎ Elsewhe
 here_or_elsewhere k q j p = ⊎_elim (λ a. ⊎_elim (λ b. inl (a, b)) (λ b. inr (λ e. b e.1)) (cases_eq p q)) (λ a. inr (λ e. a e.0)) (cases_eq j k)
 
 -- A card acts where the cards and what is kept stay.
-abbrev pub after : FloodingState → List (List (Option ℕ)) → List (List (Option ℕ)) → List (List SeatState) → List (Item LoadState) → FloodingState
+abbrev pub after : FloodingState → List (List (Option ℕ)) → List (List (Option ℕ)) → List (List Seat) → List (Item Load) → FloodingState
 after x t d ss w = record { cards = x.cards; proposals = t; decisions = d; seats = ss; wire = w; kept = x.kept }
 
 -- Card q acts in instance k and comes to stage r with the history l.
-pub record Action (x : FloodingState) (t d : List (List (Option ℕ))) (ss : List (List SeatState)) (w : List (Item LoadState)) (k q r : ℕ) (g : TiedSeats x k) (l : Past) : Type 0 where
+pub record Action (x : FloodingState) (t d : List (List (Option ℕ))) (ss : List (List Seat)) (w : List (Item Load)) (k q r : ℕ) (g : TiedSeats x k) (l : Past) : Type 0 where
   pub seats_stay : (j p : ℕ) → Elsewhere k q j p → seat_in ss j p ≡ seat_in x.seats j p
   pub decisions_stay : (j p : ℕ) → Elsewhere k q j p → ballot_in d j p ≡ ballot_in x.decisions j p
   pub proposals_stay : (j p : ℕ) → Elsewhere k q j p → ballot_in t j p ≡ ballot_in x.proposals j p
@@ -44,7 +45,7 @@ pub record Action (x : FloodingState) (t d : List (List (Option ℕ))) (ss : Lis
   pub sent : g.past.round q < r → r ≤ x.cards.count → (b : ℕ) → b < x.cards.count → (b ≢ q) → crashed_in x.cards b ≡ false → any_of (brings k r q b) w ≡ true
   pub taken : g.past.round q < r → r ≤ x.cards.count → (a : ℕ) → a < x.cards.count → crashed_in x.cards a ≡ false → any_of (brings k r a q) x.kept ≡ true → l.counted q r a ≡ true
 
-module _ (x : FloodingState) (t d : List (List (Option ℕ))) (ss : List (List SeatState)) (w : List (Item LoadState)) (k q r : ℕ) (g : TiedSeats x k) (l : Past) (a : Action x t d ss w k q r g l) where
+module _ (x : FloodingState) (t d : List (List (Option ℕ))) (ss : List (List Seat)) (w : List (Item Load)) (k q r : ℕ) (g : TiedSeats x k) (l : Past) (a : Action x t d ss w k q r g l) where
   proposal_grows : (j s : ℕ) (o : Option ℕ) → proposal_of x.proposals j o ≡ Some s → proposal_of t j o ≡ Some s
   proposal_grows j s None e = e
   proposal_grows j s (Some p) e =
@@ -138,7 +139,7 @@ module _ (x : FloodingState) (t d : List (List (Option ℕ))) (ss : List (List S
       }
 
 -- The whole state, with the proposal that the card has put forward.
-pub action_whole : (x : FloodingState) (t d : List (List (Option ℕ))) (ss : List (List SeatState)) (w : List (Item LoadState)) (k q r : ℕ) (l : Past) (g : SoundFlooding x) (hk : k < 32) → q < x.cards.count
+pub action_whole : (x : FloodingState) (t d : List (List (Option ℕ))) (ss : List (List Seat)) (w : List (Item Load)) (k q r : ℕ) (l : Past) (g : SoundFlooding x) (hk : k < 32) → q < x.cards.count
     → Shaped t → Shaped d → Shaped ss → ((s : ℕ) → ballot_in t k q ≡ Some s → (0 < s) × (s < 2 ^ 32)) → Action x t d ss w k q r (g.tied k hk) l → SoundFlooding (after x t d ss w)
 action_whole x t d ss w k q r l g hk bq st sd sss new a =
     let n : ℕ = x.cards.count in

@@ -4,15 +4,15 @@ use Rattle.std.proofs.Common.{sym, ap, subst, ◌∙◌, ⊎_elim, arith}
 use borrow.Author.Tests.{clash}
 use Rattle.std.proofs.lemmas.Bool.{cases_Bool, cond-false, cond_both, and_parts, eqb-true}
 use Rattle.cards.specs.Cards.{crashed_in, suspects_in}
-use Rattle.tables.specs.Tables.{ballot_in, with_ballot}
+use Rattle.tables.specs.Tables.{Shaped, ballot_in, with_ballot}
 use Rattle.wire.specs.declared.Item.{Item}
-use Rattle.cards.proofs.Lists.{row_written}
-use Rattle.flooding.specs.Seats.{SeatState, no_seat, seat_in, with_seat, hearing}
-use Rattle.flooding.specs.Mail.{LoadState}
+use Rattle.tables.proofs.Written.{place_written, shaped_after}
+use Rattle.flooding.specs.Seats.{no_seat, seat_in, with_seat, hearing}
+use Rattle.flooding.specs.declared.seats.Seat.{Seat}
+use Rattle.flooding.specs.declared.mail.Load.{Load}
 use Rattle.flooding.specs.Flooding.{FloodingState, flooding_work, enter_on, decide_on, may_move, move_on, step_on, steps_on, settle_on, through_on, keep_on, hear_on, arrive_on}
-use Rattle.flooding.specs.Made.{Shaped}
 use Rattle.flooding.specs.Mails.{hearing_round}
-use Rattle.flooding.specs.Works.{shaped_after, same_rounds, may_move_means, step_work, step_cards, step_proposals, step_seats}
+use Rattle.flooding.specs.Works.{same_rounds, may_move_means, step_work, step_cards, step_proposals, step_seats}
 
 -- A table of decisions, after decisions of card q alone, none of them where one stood.
 pub record DecidedBy (q : ℕ) (t u : List (List (Option ℕ))) : Type 0 where
@@ -70,7 +70,7 @@ placed_after q x y a m =
 decision_decides : (t : List (List (Option ℕ))) (k q : ℕ) (o : Option ℕ) → Shaped t → k < 32 → q < 6 → is_some (ballot_in t k q) ≡ false → DecidedBy q t (with_ballot t k q o)
 decision_decides t k q o g hk hq none =
     let at : (j p : ℕ) → ballot_in (with_ballot t k q o) j p ≡ cond (j == k && p == q) o (ballot_in t j p) =
-    λ j p. row_written t k q j p o None (omega (arith, g.instances)) (omega (arith, g.row k hk)) in
+    λ j p. place_written t k q j p o None g hk hq in
     record {
       shaped = shaped_after t k q o g hk;
       stand = λ j p s e.
@@ -121,17 +121,17 @@ through_moved x q (suc m) a l =
 -- An item that has come.
 
 -- Hearing leaves every round.
-hear_moved : (x : FloodingState) (y : Item LoadState) → Placed x y.to → y.load.instance < 32 → MovedBy y.to x (hear_on x y)
+hear_moved : (x : FloodingState) (y : Item Load) → Placed x y.to → y.load.instance < 32 → MovedBy y.to x (hear_on x y)
 hear_moved x y a hk =
     let c = x.cards in
     let k = y.load.instance in
     let q = y.to in
     let t = x.seats in
-    let s : SeatState = hearing c q y.from y.load.known (seat_in t k q) in
+    let s : Seat = hearing c q y.from y.load.known (seat_in t k q) in
     let g = a.seats_shaped in
     let rounds : (j p : ℕ) → (seat_in (with_seat t k q s) j p).round ≡ (seat_in t j p).round =
     λ j p.
-    ap (λ (z : SeatState). z.round) (row_written t k q j p s no_seat (omega (arith, g.instances)) (omega (arith, g.row k hk, a.few, a.card)))
+    ap (λ (z : Seat). z.round) (place_written t k q j p s no_seat g hk (omega (arith, a.few, a.card)))
     ∙ cond_both (j == k && p == q) s (seat_in t j p) (λ z. z.round ≡ (seat_in t j p).round)
     (λ b.
     let h = and_parts (j == k) (p == q) b in
@@ -146,7 +146,7 @@ hear_moved x y a hk =
     }
 
 -- An item does what it does to its receiver alone.
-pub arrive_moved : (x : FloodingState) (y : Item LoadState) → Placed x y.to → y.load.instance < 32 → MovedBy y.to x (arrive_on x y)
+pub arrive_moved : (x : FloodingState) (y : Item Load) → Placed x y.to → y.load.instance < 32 → MovedBy y.to x (arrive_on x y)
 arrive_moved x y a hk =
     let k = y.load.instance in
     let q = y.to in

@@ -5,9 +5,10 @@ use Rattle.std.proofs.lemmas.Grind.{common_steps}
 use Rattle.std.proofs.Common.{ap, ◌∙◌, ⊎_elim, arith}
 use Rattle.std.proofs.lemmas.Bool.{cases_lt, and_parts, and_from}
 use Rattle.cards.specs.Cards.{CardState}
-use Rattle.flooding.specs.Seats.{SeatState, accounted_for, all_counted}
+use Rattle.flooding.specs.Seats.{accounted_for, all_counted}
+use Rattle.flooding.specs.declared.seats.Seat.{Seat}
 
-module _ (c : CardState) (q : ℕ) (s : SeatState) where
+module _ (c : CardState) (q : ℕ) (s : Seat) where
   all_from : (n a : ℕ) → (all_counted c q s a && list_all (accounted_for c q s) (range_with_len a n)) ≡ all_counted c q s (a + n)
   all_from zero a = grind (arith, common_steps)
   all_from (suc n) a =

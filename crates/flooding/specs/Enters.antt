@@ -9,7 +9,7 @@ use Rattle.notes.specs.Sets.{has, low}
 use Rattle.notes.proofs.Bits.{has_none, has_added, zeros_lowest}
 use Rattle.parts.proofs.Options.{some_held}
 use Rattle.cards.specs.Cards.{crashed_in, suspects_in}
-use Rattle.tables.specs.Tables.{ballot_in, with_ballot}
+use Rattle.tables.specs.Tables.{Shaped, ballot_in, with_ballot}
 use Rattle.wire.specs.Wires.{sent, any_of}
 use Rattle.wire.specs.declared.Item.{Item}
 use Rattle.wire.proofs.Items.{all_sent_are, any_append, any_sent}
@@ -18,19 +18,22 @@ use Rattle.histories.specs.Moves.{heard_of, passing}
 use Rattle.histories.proofs.Agrees.{own_known, validity}
 use Rattle.histories.proofs.Kept.{moves_make_histories}
 use Rattle.histories.proofs.Puts.{row_same}
-use Rattle.flooding.specs.Seats.{SeatState, no_seat, seat_in, with_seat, entering, hearing}
-use Rattle.flooding.specs.Mail.{LoadState, taking_in}
+use Rattle.flooding.specs.Seats.{no_seat, seat_in, with_seat, entering, hearing}
+use Rattle.flooding.specs.declared.seats.Seat.{Seat}
+use Rattle.flooding.specs.Mail.{taking_in}
+use Rattle.flooding.specs.declared.mail.Load.{Load}
 use Rattle.flooding.specs.Flooding.{FloodingState, seat_on, enter_on, decide_on, proposal_of, may_move}
-use Rattle.flooding.specs.Made.{Shaped, fates_of, brings, Underway}
+use Rattle.flooding.specs.Made.{fates_of, brings, Underway}
 use Rattle.flooding.specs.Sound.{Stands, Says, SaysIn, TiedSeats, SoundFlooding}
 use Rattle.flooding.specs.Counted.{each_counted}
-use Rattle.flooding.specs.Works.{cell_same, cell_other, shaped_after, may_move_means}
+use Rattle.tables.proofs.Written.{shaped_after}
+use Rattle.flooding.specs.Works.{cell_same, cell_other, may_move_means}
 use Rattle.flooding.specs.Pasts.{Further, no_further, passing_further, then_further, none_beyond}
 use Rattle.flooding.specs.Sits.{Sits, seated_stays, trues_stay, enters, hears, takes_in, hearing_grows, taking_grows, taking_counts}
 use Rattle.flooding.specs.Actions.{Elsewhere, after, action_whole}
 
 -- A card that sits in a round and has not decided stands there.
-sits_stand : (n : ℕ) (f : Fates) (h : Past) (t : List (List (Option ℕ))) (k q r : ℕ) (d : Option ℕ) (s : SeatState) (a : Sits n f h q r s) → is_some d ≡ false → is_some (ballot_in t k q) ≡ true → 1 ≤ r → has s.counted q ≡ true
+sits_stand : (n : ℕ) (f : Fates) (h : Past) (t : List (List (Option ℕ))) (k q r : ℕ) (d : Option ℕ) (s : Seat) (a : Sits n f h q r s) → is_some d ≡ false → is_some (ballot_in t k q) ≡ true → 1 ≤ r → has s.counted q ≡ true
     → Stands n a.past t k q d s
 sits_stand n f h t k q r d s a u p o self =
     record {
@@ -59,18 +62,18 @@ module _ (x : FloodingState) (k q : ℕ) (g : SoundFlooding x) (hk : k < 32) (bq
   trusts a ua = ⊎_elim (λ t. absurd (both_ways (crashed_in x.cards a) ua (g.sound.suspected_crashed q a t))) (λ t. t) (cases_Bool (suspects_in x.cards q a))
 
   -- It hears an item.
-  pub hear_whole : (y : Item LoadState) → Says n tie.past y → y.to ≡ q → y.load.round ≡ (seat_in x.seats k q).round
+  pub hear_whole : (y : Item Load) → Says n tie.past y → y.to ≡ q → y.load.round ≡ (seat_in x.seats k q).round
       → SoundFlooding (seat_on x k q (hearing x.cards q y.from y.load.known (seat_in x.seats k q)))
   hear_whole y t to e =
       let c = x.cards in
       let h = tie.past in
-      let s : SeatState = seat_in x.seats k q in
+      let s : Seat = seat_in x.seats k q in
       let r : ℕ = s.round in
       let u = tie.stands q bq in
       let begun : 1 ≤ r = omega (arith, t.begun) in
       let still : Sits n (fates_of c) h q r s = record { past = h; history = tie.history; moved = subst (λ i. Further h h q i) in_round (no_further h q); here = refl; seated = u.seated } in
       let a = hears c h q r g.sound.few bq up begun s y t to e still in
-      let s' : SeatState = hearing c q y.from y.load.known s in
+      let s' : Seat = hearing c q y.from y.load.known s in
       let same : seat_in (with_seat x.seats k q s') k q ≡ s' = cell_same x.seats k q s' no_seat g.seats_shaped hk six in
       action_whole x x.proposals x.decisions (with_seat x.seats k q s') x.wire k q r a.past g hk bq g.proposals_shaped g.decisions_shaped (shaped_after x.seats k q s' g.seats_shaped hk) (g.proposed_sets k q)
       (record {
@@ -99,12 +102,12 @@ module _ (x : FloodingState) (k q : ℕ) (g : SoundFlooding x) (hk : k < 32) (bq
     enters_whole begun last i m none knew fits st others mine there new =
         let c = x.cards in
         let h = tie.past in
-        let s₀ : SeatState = entering q r known in
-        let first : List (List SeatState) = with_seat x.seats k q s₀ in
-        let s : SeatState = taking_in c k q s₀ x.kept in
-        let seats : List (List SeatState) = with_seat first k q s in
-        let load : LoadState = record { instance = k; round = r; known = known } in
-        let wire : List (Item LoadState) = x.wire ++ sent c q load n in
+        let s₀ : Seat = entering q r known in
+        let first : List (List Seat) = with_seat x.seats k q s₀ in
+        let s : Seat = taking_in c k q s₀ x.kept in
+        let seats : List (List Seat) = with_seat first k q s in
+        let load : Load = record { instance = k; round = r; known = known } in
+        let wire : List (Item Load) = x.wire ++ sent c q load n in
         let g₁ = shaped_after x.seats k q s₀ g.seats_shaped hk in
         let kept = trues_stay n h l q r k x.kept m tie.kept_true in
         let a : Sits n (fates_of c) l q r s = takes_in c l q r g.sound.few bq up begun k s₀ x.kept kept (enters c l q r g.sound.few bq up begun known i m.now last none knew fits) in
@@ -146,7 +149,7 @@ module _ (x : FloodingState) (k q : ℕ) (g : SoundFlooding x) (hk : k < 32) (bq
               (and_from _ _ (and_from _ _ (eq-eqb k k refl) (eq-eqb r r refl)) (and_from _ _ (eq-eqb q q refl) (eq-eqb b b refl))));
           taken = λ _ _ p bp ua w. ap (λ j. a.past.counted q j p) (sym a.here) ∙ sym (a.seated.counts p bp) ∙ taking_counts c q k r s₀ x.kept p refl (omega (arith, g.sound.few)) (trusts p ua) w;
         }) in
-        subst (λ (z : SeatState). SoundFlooding (after x t x.decisions (with_seat first k q (taking_in c k q z x.kept)) (x.wire ++ sent c q (record { instance = k; round = z.round; known = z.known }) n)))
+        subst (λ (z : Seat). SoundFlooding (after x t x.decisions (with_seat first k q (taking_in c k q z x.kept)) (x.wire ++ sent c q (record { instance = k; round = z.round; known = z.known }) n)))
         (sym (cell_same x.seats k q s₀ no_seat g.seats_shaped hk six)) whole
 
 -- A card that may move enters the next round, or decides.
@@ -170,7 +173,7 @@ module _ (x : FloodingState) (k q : ℕ) (g : SoundFlooding x) (hk : k < 32) (bq
   next_history : History x.cards.count (fates_of x.cards) next
   next_history =
       let c = x.cards in
-      let s : SeatState = seat_in x.seats k q in
+      let s : Seat = seat_in x.seats k q in
       let t = g.tied k hk in
       let o = may_move_means x k q m in
       (moves_make_histories c.count).passing_keeps (fates_of c) now q t.history

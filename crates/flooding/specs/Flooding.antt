@@ -4,26 +4,23 @@ use Rattle.std.specs.List.{slice_get, remove}
 use Rattle.notes.specs.Sets.{added, low}
 use Rattle.parts.specs.Views.{ConsensusView}
 use Rattle.parts.specs.Deciding.{consensus_view}
-use Rattle.cards.specs.Cards.{CardState, cards_of, crashed_in, suspects_in, new_cards, with_crash, with_suspicion}
-use Rattle.tables.specs.Tables.{ballots_of, new_ballots, ballot_in, with_ballot}
+use Rattle.cards.specs.Cards.{CardState, crashed_in, suspects_in, new_cards, with_crash, with_suspicion}
+use Rattle.tables.specs.Tables.{new_ballots, ballot_in, with_ballot}
 use Rattle.wire.specs.Wires.{senders, sent, without_to}
 use Rattle.wire.specs.declared.Item.{Item}
-use Rattle.flooding.specs.Seats.{SeatState, seats_of, new_seats, seat_in, with_seat, entering, hearing, ready}
-use Rattle.flooding.specs.Mail.{LoadState, telling, mail_of, taking_in}
-use Rattle.flooding.specs.declared.state.Flooding.{Flooding}
+use Rattle.flooding.specs.Seats.{new_seats, seat_in, with_seat, entering, hearing, ready}
+use Rattle.flooding.specs.declared.seats.Seat.{Seat}
+use Rattle.flooding.specs.Mail.{telling, taking_in}
+use Rattle.flooding.specs.declared.mail.Load.{Load}
 
 -- `kept` are the items that came before their round: they wait there until their receiver enters it.
 pub record FloodingState : Type 0 where
   pub cards : CardState
   pub proposals : List (List (Option ℕ))
   pub decisions : List (List (Option ℕ))
-  pub seats : List (List SeatState)
-  pub wire : List (Item LoadState)
-  pub kept : List (Item LoadState)
-
-abbrev pub flooding_of : Flooding → FloodingState
-flooding_of f =
-    record { cards = cards_of f.cards; proposals = ballots_of f.proposals; decisions = ballots_of f.decisions; seats = seats_of f.seats; wire = mail_of f.wire; kept = mail_of f.kept }
+  pub seats : List (List Seat)
+  pub wire : List (Item Load)
+  pub kept : List (Item Load)
 
 -- What is seen.
 
@@ -51,7 +48,7 @@ total f zero = 0
 total f (suc m) = total f m + f m
 
 -- A running card in round r of n may enter n - r rounds more, and sends at most n - 1 items in each.
-abbrev pub to_send : CardState → SeatState → ℕ → ℕ
+abbrev pub to_send : CardState → Seat → ℕ → ℕ
 to_send c s p = cond (not (crashed_in c p) && nat_lt 0 s.round) ((c.count - 1) * (c.count - s.round)) 0
 
 -- Each item under way is carried or lost once, and so is each that is still to be sent.
@@ -66,7 +63,7 @@ seen = consensus_view flooding_cards flooding_crashed flooding_suspects flooding
 abbrev pub new_flooding : ℕ → FloodingState
 new_flooding n = record { cards = new_cards n; proposals = new_ballots; decisions = new_ballots; seats = new_seats; wire = []; kept = [] }
 
-abbrev pub seat_on : FloodingState → ℕ → ℕ → SeatState → FloodingState
+abbrev pub seat_on : FloodingState → ℕ → ℕ → Seat → FloodingState
 seat_on x k q s = record { cards = x.cards; proposals = x.proposals; decisions = x.decisions; seats = with_seat x.seats k q s; wire = x.wire; kept = x.kept }
 
 -- Card q takes its seat in round r of instance k: it has counted only itself.
@@ -135,21 +132,21 @@ put_forward x k p s = record { cards = x.cards; proposals = with_ballot x.propos
 abbrev pub propose_on : FloodingState → ℕ → ℕ → ℕ → FloodingState
 propose_on x k p s = settle_on (enter_on (put_forward x k p s) k p 1 (added 0 p)) k p
 
-abbrev pub keep_on : FloodingState → Item LoadState → FloodingState
+abbrev pub keep_on : FloodingState → Item Load → FloodingState
 keep_on x y = record { cards = x.cards; proposals = x.proposals; decisions = x.decisions; seats = x.seats; wire = x.wire; kept = x.kept ++ y ∷ [] }
 
-abbrev pub hear_on : FloodingState → Item LoadState → FloodingState
+abbrev pub hear_on : FloodingState → Item Load → FloodingState
 hear_on x y = seat_on x y.load.instance y.to (hearing x.cards y.to y.from y.load.known (seat_in x.seats y.load.instance y.to))
 
 -- Nothing happens to a card that has decided, nor by an item from a card that it suspects. An item of a later round is kept; one of
 -- its own round is heard, and the card moves as often as it can; one of a past round does nothing.
-abbrev pub arrive_on : FloodingState → Item LoadState → FloodingState
+abbrev pub arrive_on : FloodingState → Item Load → FloodingState
 arrive_on x y =
     cond (is_some (ballot_in x.decisions y.load.instance y.to) || suspects_in x.cards y.to y.from) x
     (cond (nat_lt (seat_in x.seats y.load.instance y.to).round y.load.round) (keep_on x y)
     (cond ((seat_in x.seats y.load.instance y.to).round == y.load.round) (settle_on (hear_on x y) y.load.instance y.to) x))
 
-abbrev pub arrive_by : FloodingState → Option (Item LoadState) → FloodingState
+abbrev pub arrive_by : FloodingState → Option (Item Load) → FloodingState
 arrive_by x None = x
 arrive_by x (Some y) = arrive_on x y
 

@@ -1,10 +1,10 @@
 -- `new` and the calls make floodings that hold together.
-use Rattle.std.specs.Prelude.{◌≡◌, ℕ, zero, suc, ◌^◌, ◌<◌, Bool, true, false, cond, not, ◌&&◌, ◌||◌, ltb, [], ◌∷◌, ◌++◌, replicate, is_some, Some, None, ◌==◌, bit_or, nat_eq, nat_lt, refl, Ok}
+use Rattle.std.specs.Prelude.{◌≡◌, ℕ, zero, suc, ◌^◌, ◌<◌, Bool, true, false, cond, not, ◌&&◌, ◌||◌, ltb, [], ◌∷◌, ◌++◌, is_some, Some, None, ◌==◌, bit_or, nat_eq, nat_lt, refl, Ok}
 use Rattle.std.proofs.Common.{sym, ap, subst, ◌∙◌, inl, inr, ⊎_elim, arith}
 use borrow.Author.Tests.{clash}
 use Rattle.std.proofs.lemmas.Nat.{or_lt}
 use Rattle.std.proofs.Math.Pow.{pow-lt}
-use Rattle.std.specs.List.{slice_get}
+use Rattle.std.specs.List.{slice_get, AllByRecursion}
 use Rattle.std.proofs.ByRecursion.{All-push, All-weaker}
 use Rattle.std.proofs.lemmas.Bool.{and_parts, and_from, and_left, and_right, or_parts, or_cases, or_left, or_right, eqb-true, eqb-false, eq-eqb, ne_eqb, lt-ltb, ltb-true, ltb-false, not-true, not_from_false, cases_Bool, cases_eq, cond-true, cond-false, cond_both, both_ways}
 use Rattle.notes.specs.Sets.{has, added}
@@ -12,24 +12,26 @@ use Rattle.notes.proofs.Bits.{has_none, has_added}
 use Rattle.parts.specs.Refusals.{propose_answer, carry_answer, lose_answer, crash_answer, suspect_answer}
 use Rattle.parts.proofs.Accepted.{propose_accepted, crash_accepted, suspect_accepted}
 use Rattle.parts.proofs.Options.{some_held}
-use Rattle.cards.specs.Cards.{CardState, crashed_in, suspects_in, new_cards, with_crash, with_suspicion}
+use Rattle.cards.specs.Cards.{CardState, crashed_in, suspects_in, new_cards, with_crash, with_suspicion, SoundCards}
 use Rattle.tables.specs.Tables.{new_ballots, ballot_in, with_ballot}
-use Rattle.wire.specs.Wires.{any_of, elsewhere}
+use Rattle.wire.specs.Wires.{any_of, elsewhere, without_to}
 use Rattle.wire.specs.declared.Item.{Item}
 use Rattle.wire.proofs.Items.{all_nth, all_left, any_left, any_append}
-use Rattle.cards.proofs.Lists.{same_rows, new_row}
+use Rattle.cards.proofs.Lists.{same_rows}
 use Rattle.cards.proofs.Nets.{new_sound, crash_sound, crash_more, suspect_sound, suspect_more}
 use Rattle.wire.proofs.Taken.{carried_item, lost_item}
 use Rattle.histories.specs.Moves.{Later, beginning, proposing}
 use Rattle.histories.proofs.Kept.{moves_make_histories}
 use Rattle.histories.proofs.Puts.{row_same}
-use Rattle.flooding.specs.Seats.{SeatState, no_seat, new_seats, seat_in, with_seat, hearing, all_counted}
-use Rattle.flooding.specs.Mail.{LoadState}
+use Rattle.flooding.specs.Seats.{no_seat, new_seats, seat_in, with_seat, hearing, all_counted}
+use Rattle.flooding.specs.declared.seats.Seat.{Seat}
+use Rattle.flooding.specs.declared.mail.Load.{Load}
 use Rattle.flooding.specs.Flooding.{FloodingState, flooding_work, seen, new_flooding, put_forward, enter_on, keep_on, hear_on, arrive_on, arrive_by, settle_on, propose_on, carry_on, lose_on, crash_on, doubt_on, suspect_on, may_move}
-use Rattle.flooding.specs.Made.{Shaped, fates_of, brings, Underway}
+use Rattle.flooding.specs.Made.{fates_of, brings, Underway}
 use Rattle.flooding.specs.Sound.{Stands, Says, SaysIn, TiedSeats, SoundFlooding, SettledFlooding}
 use Rattle.flooding.specs.Mails.{hearing_round}
-use Rattle.flooding.specs.Works.{cell_same, cell_other, shaped_after}
+use Rattle.tables.proofs.Written.{new_shaped, shaped_after}
+use Rattle.flooding.specs.Works.{cell_same, cell_other}
 use Rattle.flooding.specs.Pasts.{proposing_further, none_beyond}
 use Rattle.flooding.specs.Sits.{hearing_counts}
 use Rattle.flooding.specs.Actions.{Elsewhere, here_or_elsewhere}
@@ -39,16 +41,13 @@ use Rattle.flooding.specs.Leaves.{brings_parts, Accounted, leave_whole}
 
 -- A new one.
 
-pub new_shaped : {X : Type 0} (d : X) → Shaped (replicate 32 (replicate 6 d))
-new_shaped d = record { instances = refl; row = λ k h. new_row 32 k (replicate 6 d) h }
-
 pub new_seat : (k p : ℕ) → seat_in new_seats k p ≡ no_seat
 new_seat k p = same_rows 32 6 k p no_seat
 
 pub new_ballot : (k p : ℕ) → ballot_in new_ballots k p ≡ None
 new_ballot k p = same_rows 32 6 k p None
 
-new_stands : (n k p : ℕ) → Stands n beginning new_ballots k p (ballot_in new_ballots k p) (seat_in new_seats k p)
+pub new_stands : (n k p : ℕ) → Stands n beginning new_ballots k p (ballot_in new_ballots k p) (seat_in new_seats k p)
 new_stands n k p =
     subst (λ o. Stands n beginning new_ballots k p o (seat_in new_seats k p)) (sym (new_ballot k p))
     (subst (Stands n beginning new_ballots k p None) (sym (new_seat k p))
@@ -59,6 +58,11 @@ new_stands n k p =
       self_counted = λ o. absurd (omega arith);
       decided = λ v e. absurd (clash (ap is_some e));
     }))
+
+pub new_settled : (n k p : ℕ) → may_move (new_flooding n) k p ≡ false
+new_settled n k p =
+    let c = new_cards n in
+    and_right (nat_lt p c.count) _ (and_right (not (is_some (ballot_in new_ballots k p))) _ (and_left (nat_lt 0 (seat_in new_seats k p).round) (all_counted c p (seat_in new_seats k p) c.count) (ap (λ (s : Seat). ltb 0 s.round) (new_seat k p))))
 
 pub new_made : (n : ℕ) → SettledFlooding (new_flooding n)
 new_made n =
@@ -83,8 +87,7 @@ new_made n =
               due = λ p q r bp bq d up uq o l h m. absurd (omega arith);
             };
       };
-      settled = λ k p l u.
-          and_right (nat_lt p c.count) _ (and_right (not (is_some (ballot_in new_ballots k p))) _ (and_left (nat_lt 0 (seat_in new_seats k p).round) (all_counted c p (seat_in new_seats k p) c.count) (ap (λ (s : SeatState). ltb 0 s.round) (new_seat k p))));
+      settled = λ k p l u. new_settled n k p;
     }
 
 -- A proposal and an item that is heard: the card moves as often as it can, and no other can.
@@ -135,7 +138,7 @@ propose_made x k p s m small h =
 
 -- An item that is carried.
 
-module _ (x : FloodingState) (i : ℕ) (y : Item LoadState) (m : SettledFlooding x) (at : slice_get x.wire i ≡ Some y) where
+module _ (x : FloodingState) (i : ℕ) (y : Item Load) (m : SettledFlooding x) (at : slice_get x.wire i ≡ Some y) where
   abbrev k : ℕ
   k = y.load.instance
 
@@ -176,12 +179,12 @@ module _ (x : FloodingState) (i : ℕ) (y : Item LoadState) (m : SettledFlooding
       let c = x.cards in
       let w = under in
       let hk = w.instance_fits in
-      let s : SeatState = seat_in x.seats k q in
-      let s' : SeatState = hearing c q y.from y.load.known s in
+      let s : Seat = seat_in x.seats k q in
+      let s' : Seat = hearing c q y.from y.load.known s in
       let same : seat_in (with_seat x.seats k q s') k q ≡ s' = cell_same x.seats k q s' no_seat g.seats_shaped hk (omega (arith, w.receiver, g.sound.few)) in
-      let round : (seat_in (with_seat x.seats k q s') k q).round ≡ y.load.round = ap (λ (v : SeatState). v.round) same ∙ hearing_round c q y.from y.load.known s ∙ e in
+      let round : (seat_in (with_seat x.seats k q s') k q).round ≡ y.load.round = ap (λ (v : Seat). v.round) same ∙ hearing_round c q y.from y.load.known s ∙ e in
       let counted : has (seat_in (with_seat x.seats k q s') k q).counted y.from ≡ true =
-      ap (λ (v : SeatState). has v.counted y.from) same ∙ hearing_counts c q y.from y.load.known s (omega (arith, w.sender, g.sound.few)) trusts in
+      ap (λ (v : Seat). has v.counted y.from) same ∙ hearing_counts c q y.from y.load.known s (omega (arith, w.sender, g.sound.few)) trusts in
       let heard : SoundFlooding (hear_on x y) = hear_whole x k q g hk w.receiver w.up u y (says k (g.tied k hk) refl) refl (sym e) in
       let whole : SoundFlooding (hear_on (lose_on x i) y) =
       leave_whole (hear_on x y) i y x.kept heard at (λ j t. t.kept_true) (λ j r p b v. v)
@@ -191,7 +194,7 @@ module _ (x : FloodingState) (i : ℕ) (y : Item LoadState) (m : SettledFlooding
   arrive_made : SettledFlooding (arrive_on (lose_on x i) y)
   arrive_made =
       let c = x.cards in
-      let s : SeatState = seat_in x.seats k q in
+      let s : Seat = seat_in x.seats k q in
       let b : Bool = is_some (ballot_in x.decisions k q) in
       let d : Bool = suspects_in c q y.from in
       let x' = lose_on x i in
@@ -223,52 +226,73 @@ lose_made x i m h =
 
 -- A crash and a suspicion.
 
-pub same_counted : (c e : CardState) (q : ℕ) (s : SeatState) (m : ℕ) → ((y : ℕ) → suspects_in e q y ≡ suspects_in c q y) → all_counted e q s m ≡ all_counted c q s m
+pub same_counted : (c e : CardState) (q : ℕ) (s : Seat) (m : ℕ) → ((y : ℕ) → suspects_in e q y ≡ suspects_in c q y) → all_counted e q s m ≡ all_counted c q s m
 same_counted c e q s zero h = refl
 same_counted c e q s (suc m) h = cc (same_counted c e q s m h, h m)
+
+pub crash_moves : (x : FloodingState) (p k q : ℕ) → may_move (crash_on x p) k q ≡ may_move x k q
+crash_moves x p k q =
+    ap (λ w. nat_lt q x.cards.count && (not (is_some (ballot_in x.decisions k q)) && (nat_lt 0 (seat_in x.seats k q).round && w)))
+    (same_counted x.cards (with_crash x.cards p) q (seat_in x.seats k q) x.cards.count (λ y. refl))
+
+module _ (x : FloodingState) (p : ℕ) (g : SoundCards x.cards) (card : p < x.cards.count) where
+  abbrev c : CardState
+  c = x.cards
+
+  abbrev e : CardState
+  e = with_crash x.cards p
+
+  pub up_before : (q : ℕ) → crashed_in e q ≡ false → ((q == p) ≡ false) × (crashed_in c q ≡ false)
+  up_before q u = or_parts _ _ (sym (crash_more c p q g card) ∙ u)
+
+  pub crash_later : Later (fates_of c) (fates_of e)
+  crash_later =
+      record {
+        crashed_stay = λ q o. not_from_false _ (up_before q (not-true _ o)).1;
+        suspicions_stay = λ q y o. o;
+        new_crashed = λ q y o. inl o;
+      }
+
+  pub crash_items : AllByRecursion (Underway c) x.wire → AllByRecursion (Underway e) (without_to p x.wire)
+  crash_items =
+      all_left (Underway c) (Underway e) (elsewhere p) x.wire
+      (λ y u o. record { instance_fits = u.instance_fits; sender = u.sender; receiver = u.receiver; up = crash_more c p y.to g card ∙ ap (λ b. b || crashed_in c y.to) (not-true _ o) ∙ u.up })
+
+  -- What is under way to a card that runs afterwards stays.
+  pub crash_leaves : (k r a q : ℕ) → crashed_in e q ≡ false → any_of (brings k r a q) x.wire ≡ true → any_of (brings k r a q) (without_to p x.wire) ≡ true
+  crash_leaves k r a q u =
+      any_left (brings k r a q) (elsewhere p) x.wire
+      (λ y b. not_from_false _ (ne_eqb y.to p (λ z. eqb-false q p (up_before q u).0 (sym (brings_parts k r a q y b).1 ∙ z))))
 
 pub crash_made : (x : FloodingState) (p : ℕ) → SettledFlooding x → crash_answer (seen x).net p ≡ Ok tt → SettledFlooding (crash_on x p)
 crash_made x p m h =
     let g = m.whole in
+    let s = g.sound in
     let f = crash_accepted (seen x).net p h in
     let c = x.cards in
-    let before : (q : ℕ) → crashed_in (with_crash c p) q ≡ false → ((q == p) ≡ false) × (crashed_in c q ≡ false) = λ q u. or_parts _ _ (sym (crash_more c p q g.sound f.0) ∙ u) in
-    let later : Later (fates_of c) (fates_of (with_crash c p)) =
-    record {
-      crashed_stay = λ q e. not_from_false _ (before q (not-true _ e)).1;
-      suspicions_stay = λ q y e. e;
-      new_crashed = λ q y e. inl e;
-    } in
+    let before = up_before x p s f.0 in
     record {
       whole = record {
-        sound = crash_sound c p g.sound f.0;
+        sound = crash_sound c p s f.0;
         proposals_shaped = g.proposals_shaped;
         decisions_shaped = g.decisions_shaped;
         seats_shaped = g.seats_shaped;
         proposers = g.proposers;
         deciders = g.deciders;
         proposed_sets = g.proposed_sets;
-        items = all_left (Underway c) (Underway (with_crash c p)) (elsewhere p) x.wire
-            (λ y u e. record { instance_fits = u.instance_fits; sender = u.sender; receiver = u.receiver; up = crash_more c p y.to g.sound f.0 ∙ ap (λ b. b || crashed_in c y.to) (not-true _ e) ∙ u.up }) g.items;
+        items = crash_items x p s f.0 g.items;
         tied = λ k l.
             let t = g.tied k l in
             record {
               past = t.past;
-              history = (moves_make_histories c.count).later_keeps (fates_of c) (fates_of (with_crash c p)) t.past t.history later;
+              history = (moves_make_histories c.count).later_keeps (fates_of c) (fates_of (with_crash c p)) t.past t.history (crash_later x p s f.0);
               stands = t.stands;
               wire_true = all_left (SaysIn c.count t.past k) (SaysIn c.count t.past k) (elsewhere p) x.wire (λ y e _. e) t.wire_true;
               kept_true = t.kept_true;
-              due = λ a q r ba bq d ua uq o m ha hq.
-                  ⊎_elim
-                  (λ w. inl (any_left (brings k r a q) (elsewhere p) x.wire
-                  (λ y b. not_from_false _ (ne_eqb y.to p (λ z. eqb-false q p (before q uq).0 (sym (brings_parts k r a q y b).1 ∙ z)))) w))
-                  (λ e. inr e)
-                  (t.due a q r ba bq d (before a ua).1 (before q uq).1 o m ha hq);
+              due = λ a q r ba bq d ua uq o n ha hq. ⊎_elim (λ w. inl (crash_leaves x p s f.0 k r a q uq w)) (λ e. inr e) (t.due a q r ba bq d (before a ua).1 (before q uq).1 o n ha hq);
             };
       };
-      settled = λ k q l u.
-          ap (λ w. nat_lt q c.count && (not (is_some (ballot_in x.decisions k q)) && (nat_lt 0 (seat_in x.seats k q).round && w))) (same_counted c (with_crash c p) q (seat_in x.seats k q) c.count (λ y. refl))
-          ∙ m.settled k q l (before q u).1;
+      settled = λ k q l u. crash_moves x p k q ∙ m.settled k q l (before q u).1;
     }
 
 pub suspect_made : (x : FloodingState) (q p : ℕ) → SettledFlooding x → suspect_answer (seen x).net q p ≡ Ok tt → SettledFlooding (suspect_on x q p)

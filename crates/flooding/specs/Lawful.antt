@@ -1,33 +1,32 @@
 -- What is certain of every flooding that is made: decisions were proposed, are equal, and come when it is quiet.
-use Rattle.std.specs.Prelude.{◌≡◌, ℕ, zero, suc, ◌<◌, ◌≤◌, true, false, ◌⊎◌, List, [], is_some, Some, None, Option, ◌≢◌, slice_index_or}
+use Rattle.std.specs.List.{AllByRecursion}
+use Rattle.std.specs.Prelude.{◌≡◌, ℕ, zero, suc, ◌^◌, ◌<◌, ◌≤◌, true, false, ◌⊎◌, List, is_some, Some, None, Option, ◌≢◌}
 use Rattle.std.proofs.Common.{sym, ap, subst, ◌∙◌, inl, ⊎_elim, arith}
 use borrow.Author.Tests.{clash}
 use Rattle.std.proofs.ByRecursion.{All-map, All-weaker}
-use Rattle.std.proofs.lemmas.List.{get_or_past}
 use Rattle.std.proofs.lemmas.Bool.{cases_Bool, cases_lt, cases_eq, cond-true, cond-false, and_from, or_left, or_right, not_from_false, lt-ltb, ltb-true, both_ways}
 use Rattle.notes.specs.Sets.{has, low}
 use Rattle.notes.proofs.Bits.{same_sets}
 use Rattle.parts.specs.Views.{Runs, Quiet}
 use Rattle.parts.specs.Deciding.{Lawful}
 use Rattle.parts.proofs.Options.{some_held}
-use Rattle.cards.specs.Cards.{crashed_in}
-use Rattle.tables.specs.Tables.{ballot_in}
+use Rattle.cards.specs.Cards.{crashed_in, SoundCards}
+use Rattle.tables.specs.Tables.{Shaped, ballot_in}
 use Rattle.wire.specs.Wires.{senders, any_of}
 use Rattle.tables.proofs.Changes.{nothing_left}
+use Rattle.tables.proofs.Written.{instance_below}
 use Rattle.cards.proofs.Nets.{lawful_net}
 use Rattle.wire.proofs.Wires.{length_senders}
-use Rattle.histories.specs.Histories.{Left}
+use Rattle.histories.specs.Histories.{Past, History, Left}
 use Rattle.histories.specs.Moves.{heard_of}
 use Rattle.histories.proofs.Agrees.{agreement}
 use Rattle.histories.proofs.Heard.{heard_knew}
-use Rattle.flooding.specs.Seats.{SeatState, seat_in, accounted_for}
+use Rattle.flooding.specs.Seats.{seat_in, accounted_for}
+use Rattle.flooding.specs.declared.seats.Seat.{Seat}
 use Rattle.flooding.specs.Flooding.{FloodingState, flooding_work, seen, proposal_of, may_move}
-use Rattle.flooding.specs.Made.{Shaped, fates_of, brings, Underway}
-use Rattle.flooding.specs.Sound.{TiedSeats, SettledFlooding}
+use Rattle.flooding.specs.Made.{fates_of, brings, Underway}
+use Rattle.flooding.specs.Sound.{Stands, SettledFlooding}
 use Rattle.flooding.specs.Counted.{all_from_each}
-
-pub instance_below : (t : List (List (Option ℕ))) (k p : ℕ) → Shaped t → is_some (ballot_in t k p) ≡ true → k < 32
-instance_below t k p g h = ⊎_elim (λ l. l) (λ l. absurd (clash (sym (ap (λ r. is_some (slice_index_or {A = Option ℕ} r p None)) (get_or_past t k [] (omega (arith, g.instances)))) ∙ h))) (cases_lt k 32)
 
 pub some_proposal : (t : List (List (Option ℕ))) (k s : ℕ) (o : Option ℕ) → proposal_of t k o ≡ Some s → (q : ℕ) × (ballot_in t k q ≡ Some s)
 some_proposal t k s None e = absurd (clash (ap is_some e))
@@ -36,12 +35,20 @@ some_proposal t k s (Some q) e = (q, e)
 pub same_some : (s t : ℕ) → ◌≡◌ {A = Option ℕ} (Some s) (Some t) → s ≡ t
 same_some s t e = cc
 
-module _ (x : FloodingState) (k : ℕ) (m : SettledFlooding x) (hk : k < 32) where
-  abbrev g : TiedSeats x k
-  g = m.whole.tied k hk
+-- What of an instance's state the laws rest on: each card stands where a history says, what was sent has not gone astray, and no running card can move.
+pub record Standing (x : FloodingState) (k : ℕ) : Type 0 where
+  pub past : Past
+  pub history : History x.cards.count (fates_of x.cards) past
+  pub stands : (p : ℕ) → p < x.cards.count → Stands x.cards.count past x.proposals k p (ballot_in x.decisions k p) (seat_in x.seats k p)
+  pub deciders : (p : ℕ) → is_some (ballot_in x.decisions k p) ≡ true → p < x.cards.count
+  pub due : (p q r : ℕ) → p < x.cards.count → q < x.cards.count → (q ≢ p) → crashed_in x.cards p ≡ false → crashed_in x.cards q ≡ false
+      → 1 ≤ r → r ≤ x.cards.count → r ≤ past.round p → past.round q ≤ r
+      → (any_of (brings k r p q) x.wire ≡ true) ⊎ (((past.round q < r) × (any_of (brings k r p q) x.kept ≡ true)) ⊎ (past.counted q r p ≡ true))
+  pub settled : (p : ℕ) → p < x.cards.count → crashed_in x.cards p ≡ false → may_move x k p ≡ false
 
+module _ (x : FloodingState) (k : ℕ) (g : Standing x k) where
   card : (p s : ℕ) → ballot_in x.decisions k p ≡ Some s → p < x.cards.count
-  card p s e = m.whole.deciders k p (ap is_some e)
+  card p s e = g.deciders p (ap is_some e)
 
   decided_stage : (p s : ℕ) → ballot_in x.decisions k p ≡ Some s → g.past.round p ≡ suc x.cards.count
   decided_stage p s e = (g.stands p (card p s e)).stage ∙ cond-true _ _ _ (ap is_some e)
@@ -69,7 +76,7 @@ module _ (x : FloodingState) (k : ℕ) (m : SettledFlooding x) (hk : k < 32) whe
   decided_proposed : (p : ℕ) → is_some (ballot_in x.decisions k p) ≡ true → is_some (ballot_in x.proposals k p) ≡ true
   decided_proposed p h =
       let o = some_held (ballot_in x.decisions k p) h in
-      let b = m.whole.deciders k p h in
+      let b = g.deciders p h in
       let t = g.stands p b in
       t.proposed ∙ lt-ltb 0 (seat_in x.seats k p).round (omega (arith, b, (t.decided o.0 o.1).0))
 
@@ -82,7 +89,7 @@ module _ (x : FloodingState) (k : ℕ) (m : SettledFlooding x) (hk : k < 32) whe
         → ((q : ℕ) → q < x.cards.count → crashed_in x.cards q ≡ false → g.past.round p ≤ g.past.round q) → ⊥
     stuck p b u l low =
         let n : ℕ = x.cards.count in
-        let s : SeatState = seat_in x.seats k p in
+        let s : Seat = seat_in x.seats k p in
         let t = g.stands p b in
         let runs : Runs (seen x).net p = record { card = b; up = u } in
         let undecided : is_some (ballot_in x.decisions k p) ≡ false =
@@ -100,7 +107,7 @@ module _ (x : FloodingState) (k : ℕ) (m : SettledFlooding x) (hk : k < 32) whe
         (λ v. or_left _ _ (quiet.known p y runs c v))
         (λ v. or_right _ _ (⊎_elim (λ (e : p ≡ y). subst (λ z. has s.counted z ≡ true) e (t.self_counted o)) (λ d. heard y c d v) (cases_eq p y)))
         (cases_Bool (crashed_in x.cards y)) in
-        both_ways (may_move x k p) (m.settled k p hk u)
+        both_ways (may_move x k p) (g.settled p b u)
         (and_from _ _ (lt-ltb p n b) (and_from _ _ (not_from_false _ undecided) (and_from _ _ (lt-ltb 0 s.round o) (all_from_each x.cards p s n each))))
 
     reach : (r : ℕ) → r ≤ suc x.cards.count → (p : ℕ) → p < x.cards.count → crashed_in x.cards p ≡ false → r ≤ g.past.round p
@@ -121,19 +128,29 @@ module _ (x : FloodingState) (k : ℕ) (m : SettledFlooding x) (hk : k < 32) whe
         (λ e. absurd (let z : g.past.round p ≡ (seat_in x.seats k p).round = t.stage ∙ cond-false _ _ _ e in omega (arith, t.seated.in_rounds)))
         (cases_Bool (is_some (ballot_in x.decisions k p)))
 
+pub laws_from : (x : FloodingState) → SoundCards x.cards → Shaped x.proposals → Shaped x.decisions → ((k p : ℕ) → is_some (ballot_in x.proposals k p) ≡ true → p < x.cards.count)
+    → ((k p s : ℕ) → ballot_in x.proposals k p ≡ Some s → (0 < s) × (s < 2 ^ 32)) → AllByRecursion (Underway x.cards) x.wire → ((k : ℕ) → k < 32 → Standing x k) → Lawful (seen x)
+laws_from x sound proposed decided proposers sets items each =
+    record {
+      net = lawful_net x.cards (senders x.wire) (flooding_work x) sound
+          (All-map (λ s. (s < x.cards.count) ⊎ (s ≡ 7)) (λ y. y.from) x.wire (All-weaker (Underway x.cards) (λ y. (y.from < x.cards.count) ⊎ (y.from ≡ 7)) (λ y u. inl u.sender) x.wire items))
+          (omega (arith, length_senders x.wire));
+      instances_below_32 = λ k p h. instance_below x.proposals k p proposed h;
+      proposers_are_cards = proposers;
+      proposals_not_empty = λ k p s h. (sets k p s h).0;
+      proposals_fit_32_bits = λ k p s h. (sets k p s h).1;
+      decided_have_proposed = λ k p h. decided_proposed x k (each k (instance_below x.decisions k p decided h)) p h;
+      decisions_were_proposed = λ k p s h.
+          let g = each k (instance_below x.decisions k p decided (ap is_some h)) in
+          some_proposal x.proposals k s (low (seat_in x.seats k p).known) ((g.stands p (g.deciders p (ap is_some h))).decided s h).1;
+      decisions_equal = λ k p q s t hs ht. same_decisions x k (each k (instance_below x.decisions k p decided (ap is_some hs))) p q s t hs ht;
+      quiet_all_decided = λ q k all p r. all_decided x k (each k (instance_below x.proposals k p proposed (all p r))) q all p r;
+    }
+
 pub lawful : (x : FloodingState) → SettledFlooding x → Lawful (seen x)
 lawful x m =
     let g = m.whole in
-    record {
-      net = lawful_net x.cards (senders x.wire) (flooding_work x) g.sound
-          (All-map (λ s. (s < x.cards.count) ⊎ (s ≡ 7)) (λ y. y.from) x.wire (All-weaker (Underway x.cards) (λ y. (y.from < x.cards.count) ⊎ (y.from ≡ 7)) (λ y u. inl u.sender) x.wire g.items))
-          (omega (arith, length_senders x.wire));
-      instances_below_32 = λ k p h. instance_below x.proposals k p g.proposals_shaped h;
-      proposers_are_cards = g.proposers;
-      proposals_not_empty = λ k p s h. (g.proposed_sets k p s h).0;
-      proposals_fit_32_bits = λ k p s h. (g.proposed_sets k p s h).1;
-      decided_have_proposed = λ k p h. decided_proposed x k m (instance_below x.decisions k p g.decisions_shaped h) p h;
-      decisions_were_proposed = λ k p s h. some_proposal x.proposals k s (low (seat_in x.seats k p).known) (((g.tied k (instance_below x.decisions k p g.decisions_shaped (ap is_some h))).stands p (g.deciders k p (ap is_some h))).decided s h).1;
-      decisions_equal = λ k p q s t hs ht. same_decisions x k m (instance_below x.decisions k p g.decisions_shaped (ap is_some hs)) p q s t hs ht;
-      quiet_all_decided = λ q k all p r. all_decided x k m (instance_below x.proposals k p g.proposals_shaped (all p r)) q all p r;
-    }
+    laws_from x g.sound g.proposals_shaped g.decisions_shaped g.proposers g.proposed_sets g.items
+    (λ k hk.
+    let t = g.tied k hk in
+    record { past = t.past; history = t.history; stands = t.stands; deciders = g.deciders k; due = t.due; settled = λ p b u. m.settled k p hk u })

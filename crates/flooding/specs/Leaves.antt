@@ -7,13 +7,13 @@ use Rattle.cards.specs.Cards.{crashed_in}
 use Rattle.wire.specs.Wires.{any_of}
 use Rattle.wire.specs.declared.Item.{Item}
 use Rattle.wire.proofs.Items.{all_removed, any_split}
-use Rattle.flooding.specs.Mail.{LoadState}
+use Rattle.flooding.specs.declared.mail.Load.{Load}
 use Rattle.flooding.specs.Flooding.{FloodingState}
 use Rattle.flooding.specs.Made.{brings, Underway}
 use Rattle.flooding.specs.Sound.{SaysIn, TiedSeats, SoundFlooding}
 
 -- Which item is asked for.
-pub brings_parts : (k r p q : ℕ) (y : Item LoadState) → brings k r p q y ≡ true → (y.from ≡ p) × (y.to ≡ q) × (y.load.instance ≡ k) × (y.load.round ≡ r)
+pub brings_parts : (k r p q : ℕ) (y : Item Load) → brings k r p q y ≡ true → (y.from ≡ p) × (y.to ≡ q) × (y.load.instance ≡ k) × (y.load.round ≡ r)
 brings_parts k r p q y b =
     let e = and_parts (y.load.instance == k && y.load.round == r) (y.from == p && y.to == q) b in
     let i = and_parts (y.load.instance == k) (y.load.round == r) e.0 in
@@ -21,12 +21,12 @@ brings_parts k r p q y b =
     (eqb-true _ _ j.0, eqb-true _ _ j.1, eqb-true _ _ i.0, eqb-true _ _ i.1)
 
 -- The item of card p to card q in round r of instance k need not be under way.
-abbrev pub Accounted : FloodingState → List (Item LoadState) → ℕ → ℕ → ℕ → ℕ → Type 0
+abbrev pub Accounted : FloodingState → List (Item Load) → ℕ → ℕ → ℕ → ℕ → Type 0
 Accounted x kept k r p q =
     (g : TiedSeats x k) → crashed_in x.cards p ≡ false → crashed_in x.cards q ≡ false → g.past.round q ≤ r
     → ((g.past.round q < r) × (any_of (brings k r p q) kept ≡ true)) ⊎ (g.past.counted q r p ≡ true)
 
-pub leave_whole : (x : FloodingState) (i : ℕ) (y : Item LoadState) (kept : List (Item LoadState)) → SoundFlooding x → slice_get x.wire i ≡ Some y
+pub leave_whole : (x : FloodingState) (i : ℕ) (y : Item Load) (kept : List (Item Load)) → SoundFlooding x → slice_get x.wire i ≡ Some y
     → ((k : ℕ) (g : TiedSeats x k) → AllByRecursion (SaysIn x.cards.count g.past k) kept)
     → ((k r p q : ℕ) → any_of (brings k r p q) x.kept ≡ true → any_of (brings k r p q) kept ≡ true)
     → Accounted x kept y.load.instance y.load.round y.from y.to

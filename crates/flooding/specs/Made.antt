@@ -1,21 +1,16 @@
 -- What holds of every flooding that is made by `new` and the calls: in each instance its state is that of a history.
-use Rattle.std.specs.Prelude.{◌≡◌, ℕ, suc, ◌^◌, ◌<◌, ◌≤◌, Bool, true, false, cond, not, ◌&&◌, ◌⊎◌, List, [], length, is_some, Some, ◌==◌, ◌≢◌, nat_lt, slice_index_or}
+use Rattle.std.specs.Prelude.{◌≡◌, ℕ, suc, ◌^◌, ◌<◌, ◌≤◌, Bool, true, false, cond, not, ◌&&◌, ◌⊎◌, is_some, Some, ◌==◌, ◌≢◌, nat_lt}
 use Rattle.std.specs.List.{AllByRecursion}
 use Rattle.notes.specs.Sets.{has, low}
 use Rattle.cards.specs.Cards.{CardState, crashed_in, suspects_in, SoundCards}
-use Rattle.tables.specs.Tables.{ballot_in}
+use Rattle.tables.specs.Tables.{Shaped, ballot_in}
 use Rattle.wire.specs.Wires.{any_of}
 use Rattle.wire.specs.declared.Item.{Item}
 use Rattle.histories.specs.Histories.{Past, Fates, History}
 use Rattle.histories.specs.Moves.{heard_of}
 use Rattle.flooding.specs.Seats.{seat_in}
-use Rattle.flooding.specs.Mail.{LoadState}
+use Rattle.flooding.specs.declared.mail.Load.{Load}
 use Rattle.flooding.specs.Flooding.{FloodingState, proposal_of, may_move}
-
--- A table with a row of 6 for each of 32 instances.
-pub record Shaped {X : Type 0} (t : List (List X)) : Type 0 where
-  pub instances : length t ≡ 32
-  pub row : (k : ℕ) → k < 32 → length (slice_index_or t k []) ≡ 6
 
 abbrev pub fates_of : CardState → Fates
 fates_of c = record { runs = λ p. not (crashed_in c p); suspects = suspects_in c }
@@ -25,7 +20,7 @@ abbrev pub stage_of : FloodingState → ℕ → ℕ → ℕ
 stage_of x k p = cond (is_some (ballot_in x.decisions k p)) (suc x.cards.count) (seat_in x.seats k p).round
 
 -- An item of instance k says what its sender knew on entering its round.
-pub record True (n : ℕ) (h : Past) (k : ℕ) (y : Item LoadState) : Type 0 where
+pub record True (n : ℕ) (h : Past) (k : ℕ) (y : Item Load) : Type 0 where
   pub sender : y.from < n
   pub receiver : y.to < n
   pub others : y.to ≡ y.from → ⊥
@@ -35,7 +30,7 @@ pub record True (n : ℕ) (h : Past) (k : ℕ) (y : Item LoadState) : Type 0 whe
   pub knew : (z : ℕ) → has y.load.known z ≡ h.knew y.from y.load.round z
 
 -- Whether an item is card p's to card q in round r of instance k.
-abbrev pub brings : ℕ → ℕ → ℕ → ℕ → Item LoadState → Bool
+abbrev pub brings : ℕ → ℕ → ℕ → ℕ → Item Load → Bool
 brings k r p q y = (y.load.instance == k && y.load.round == r) && (y.from == p && y.to == q)
 
 -- The state of instance k is that of a history.
@@ -61,7 +56,7 @@ pub record Tied (x : FloodingState) (k : ℕ) : Type 0 where
   pub settled : (p : ℕ) → p < x.cards.count → crashed_in x.cards p ≡ false → may_move x k p ≡ false
 
 -- An item under way goes to a running card, in one of the instances.
-pub record Underway (c : CardState) (y : Item LoadState) : Type 0 where
+pub record Underway (c : CardState) (y : Item Load) : Type 0 where
   pub instance_fits : y.load.instance < 32
   pub sender : y.from < c.count
   pub receiver : y.to < c.count

@@ -1,5 +1,5 @@
 -- What `new` and each call make of a flooding is what the interface says.
-use Rattle.std.specs.Prelude.{◌≡◌, ℕ, zero, suc, ◌+◌, ◌-◌, ◌*◌, ◌^◌, ◌<◌, ◌≤◌, false, cond, not, ◌&&◌, ltb, length, Some, None, nat_lt, refl, Ok}
+use Rattle.std.specs.Prelude.{◌≡◌, ℕ, zero, suc, ◌+◌, ◌-◌, ◌*◌, ◌^◌, ◌<◌, ◌≤◌, false, cond, not, ◌&&◌, ◌==◌, ltb, length, Some, None, nat_lt, refl, Ok}
 use Rattle.std.proofs.Common.{sym, ap, subst, ◌∙◌, ⊎_elim, mul-le-mul, arith}
 use Rattle.std.specs.List.{slice_get}
 use Rattle.std.proofs.lemmas.List.Edits.{length-remove}
@@ -14,15 +14,17 @@ use Rattle.tables.specs.Tables.{ballot_in}
 use Rattle.wire.specs.Wires.{senders, elsewhere}
 use Rattle.wire.specs.declared.Item.{Item}
 use Rattle.wire.proofs.Items.{all_nth, part_left, length_left}
-use Rattle.cards.proofs.Lists.{same_all, same_rows, row_written}
+use Rattle.cards.proofs.Lists.{same_all, same_rows}
 use Rattle.cards.proofs.Nets.{same_cards, net_crashed, net_suspected, crash_more}
 use Rattle.wire.proofs.Taken.{carried_item, lost_item, senders_removed}
-use Rattle.flooding.specs.Seats.{SeatState, no_seat, new_seats, seat_in, entering}
-use Rattle.flooding.specs.Mail.{LoadState}
+use Rattle.flooding.specs.Seats.{no_seat, new_seats, seat_in, entering}
+use Rattle.flooding.specs.declared.seats.Seat.{Seat}
+use Rattle.flooding.specs.declared.mail.Load.{Load}
 use Rattle.flooding.specs.Flooding.{FloodingState, total, to_send, flooding_work, seen, new_flooding, enter_on, put_forward, propose_on, arrive_on, lose_on, carry_on, crash_on, doubt_on, suspect_on}
 use Rattle.flooding.specs.Made.{Underway}
 use Rattle.flooding.specs.Sound.{SettledFlooding}
-use Rattle.flooding.specs.Works.{shaped_after, total_below, enter_work}
+use Rattle.tables.proofs.Written.{place_written, shaped_after}
+use Rattle.flooding.specs.Works.{total_below, enter_work}
 use Rattle.flooding.specs.Changes.{DecidedBy, Placed, steps_moved, through_moved, arrive_moved}
 
 total_none : (f : ℕ → ℕ) (m : ℕ) → ((k : ℕ) → f k ≡ 0) → total f m ≡ 0
@@ -33,7 +35,7 @@ total_none f (suc m) h = omega (arith, h m, total_none f m h)
 pub new_means : (n : ℕ) → Started n (seen (new_flooding n))
 new_means n =
     let c = new_cards n in
-    let none : (k p : ℕ) → to_send c (seat_in new_seats k p) p ≡ 0 = λ k p. cond-false _ _ _ (and_right (not (crashed_in c p)) _ (ap (λ (s : SeatState). ltb 0 s.round) (same_rows 32 6 k p no_seat))) in
+    let none : (k p : ℕ) → to_send c (seat_in new_seats k p) p ≡ 0 = λ k p. cond-false _ _ _ (and_right (not (crashed_in c p)) _ (ap (λ (s : Seat). ltb 0 s.round) (same_rows 32 6 k p no_seat))) in
     record {
       net = record {
         cards = refl;
@@ -83,11 +85,11 @@ propose_means x k p s g fits h =
       work_rises_by_bound = omega (arith, m.work);
       proposal_stands = λ j q.
           ap (λ t. ballot_in t j q) m.proposals
-          ∙ row_written x.proposals k p j q (Some s) None (omega (arith, g.whole.proposals_shaped.instances, f.3)) (omega (arith, g.whole.proposals_shaped.row k f.3, f.0));
+          ∙ place_written x.proposals k p j q (Some s) None g.whole.proposals_shaped f.3 (omega (arith, few, f.0));
       decided_more = decides_more x after p f.1 m.decided;
     }
 
-arrived_means : (x : FloodingState) (i : ℕ) (y : Item LoadState) → SettledFlooding x → slice_get x.wire i ≡ Some y → i < length x.wire → Carried (seen x) (seen (arrive_on (lose_on x i) y))
+arrived_means : (x : FloodingState) (i : ℕ) (y : Item Load) → SettledFlooding x → slice_get x.wire i ≡ Some y → i < length x.wire → Carried (seen x) (seen (arrive_on (lose_on x i) y))
 arrived_means x i y g e l =
     let u = all_nth (Underway x.cards) x.wire i y g.whole.items e in
     let placed : Placed (lose_on x i) y.to = record { seats_shaped = g.whole.seats_shaped; decisions_shaped = g.whole.decisions_shaped; few = g.whole.sound.few; card = u.receiver; up = u.up } in
@@ -120,12 +122,12 @@ pub lose_means : (x : FloodingState) (i : ℕ) → SettledFlooding x → lose_an
 lose_means x i g h = loss_is_lost x i h
 
 -- A crashed card sends no more.
-less_to_send : (c : CardState) (p q : ℕ) (s : SeatState) → SoundCards c → p < c.count → to_send (with_crash c p) s q ≤ to_send c s q
+less_to_send : (c : CardState) (p q : ℕ) (s : Seat) → SoundCards c → p < c.count → to_send (with_crash c p) s q ≤ to_send c s q
 less_to_send c p q s g h =
     ⊎_elim
     (λ e. let z : to_send (with_crash c p) s q ≡ 0 = cond-false _ _ _ (and_left _ (nat_lt 0 s.round) (not_from_true _ e)) in omega arith)
     (λ e.
-    let b = or_parts _ _ (sym (crash_more c p q g h) ∙ e) in
+    let b : ((q == p) ≡ false) × (crashed_in c q ≡ false) = or_parts _ _ (sym (crash_more c p q g h) ∙ e) in
     let z : to_send (with_crash c p) s q ≡ to_send c s q = ap (λ d. cond (not d && nat_lt 0 s.round) ((c.count - 1) * (c.count - s.round)) 0) (e ∙ sym b.1) in
     omega arith)
     (cases_Bool (crashed_in (with_crash c p) q))

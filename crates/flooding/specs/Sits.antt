@@ -15,8 +15,10 @@ use Rattle.histories.specs.Histories.{Past, Fates, History}
 use Rattle.histories.specs.Moves.{put, any, heard_of, counting}
 use Rattle.histories.proofs.Puts.{row_same, any_decides}
 use Rattle.histories.proofs.Kept.{moves_make_histories}
-use Rattle.flooding.specs.Seats.{SeatState, entering, hearing}
-use Rattle.flooding.specs.Mail.{LoadState, is_for, taking_one, taking_in}
+use Rattle.flooding.specs.Seats.{entering, hearing}
+use Rattle.flooding.specs.declared.seats.Seat.{Seat}
+use Rattle.flooding.specs.Mail.{is_for, taking_one, taking_in}
+use Rattle.flooding.specs.declared.mail.Load.{Load}
 use Rattle.flooding.specs.Made.{fates_of, brings}
 use Rattle.flooding.specs.Sound.{Seated, Says, SaysIn}
 use Rattle.flooding.specs.Mails.{taking_one_round}
@@ -24,7 +26,7 @@ use Rattle.flooding.specs.Pasts.{Further, no_further, round_grows, then_further,
 
 -- What another card's move leaves.
 
-pub seated_stays : (n : ℕ) (f : Fates) (h l : Past) (q r p : ℕ) (s : SeatState) → History n f h → Further h l q r → ((p ≡ q) × (s.round ≡ r) → ⊥) → Seated n h p s → Seated n l p s
+pub seated_stays : (n : ℕ) (f : Fates) (h l : Past) (q r p : ℕ) (s : Seat) → History n f h → Further h l q r → ((p ≡ q) × (s.round ≡ r) → ⊥) → Seated n h p s → Seated n l p s
 seated_stays n f h l q r p s i m d g =
     record {
       in_rounds = g.in_rounds;
@@ -33,7 +35,7 @@ seated_stays n f h l q r p s i m d g =
       knows = λ z o. g.knows z o ∙ sym (heard_stays n f h i l q r p s.round z m d);
     }
 
-true_stays : (n : ℕ) (h l : Past) (q r : ℕ) (y : Item LoadState) → Further h l q r → Says n h y → Says n l y
+true_stays : (n : ℕ) (h l : Past) (q r : ℕ) (y : Item Load) → Further h l q r → Says n h y → Says n l y
 true_stays n h l q r y m t =
     record {
       sender = t.sender;
@@ -46,11 +48,11 @@ true_stays n h l q r y m t =
       fits = t.fits;
     }
 
-pub trues_stay : (n : ℕ) (h l : Past) (q r k : ℕ) (xs : List (Item LoadState)) → Further h l q r → AllByRecursion (SaysIn n h k) xs → AllByRecursion (SaysIn n l k) xs
+pub trues_stay : (n : ℕ) (h l : Past) (q r k : ℕ) (xs : List (Item Load)) → Further h l q r → AllByRecursion (SaysIn n h k) xs → AllByRecursion (SaysIn n l k) xs
 trues_stay n h l q r k xs m t = All-weaker (SaysIn n h k) (SaysIn n l k) (λ y f e. true_stays n h l q r y m (f e)) xs t
 
 -- Card q sits in round r, with a history that it has made from h by counting cards there.
-pub record Sits (n : ℕ) (f : Fates) (h : Past) (q r : ℕ) (s : SeatState) : Type 0 where
+pub record Sits (n : ℕ) (f : Fates) (h : Past) (q r : ℕ) (s : Seat) : Type 0 where
   pub past : Past
   pub history : History n f past
   pub moved : Further h past q r
@@ -91,7 +93,7 @@ heard_more n y a b l =
     (or_cases (any n (λ w. a w && b w)) (b y) e))
 
 module _ (c : CardState) (h : Past) (q r : ℕ) (few : c.count ≤ 6) (bq : q < c.count) (up : crashed_in c q ≡ false) (begun : 1 ≤ r) where
-  counts_one : (s : SeatState) (y known : ℕ) (a : Sits c.count (fates_of c) h q r s) → y < c.count → suspects_in c q y ≡ false → a.past.round q ≤ a.past.round y
+  counts_one : (s : Seat) (y known : ℕ) (a : Sits c.count (fates_of c) h q r s) → y < c.count → suspects_in c q y ≡ false → a.past.round q ≤ a.past.round y
       → ((z : ℕ) → has known z ≡ a.past.knew y r z) → known < 2 ^ 32
       → Sits c.count (fates_of c) h q r (record { round = s.round; counted = added s.counted y; known = bit_or s.known known })
   counts_one s y known a by trusts there knew fits =
@@ -147,7 +149,7 @@ module _ (c : CardState) (h : Past) (q r : ℕ) (few : c.count ≤ 6) (bq : q < 
       nobody (suc m) = nobody m
 
   -- It hears an item of the round.
-  pub hears : (s : SeatState) (y : Item LoadState) → Says c.count h y → y.to ≡ q → y.load.round ≡ r → Sits c.count (fates_of c) h q r s
+  pub hears : (s : Seat) (y : Item Load) → Says c.count h y → y.to ≡ q → y.load.round ≡ r → Sits c.count (fates_of c) h q r s
       → Sits c.count (fates_of c) h q r (hearing c q y.from y.load.known s)
   hears s y t to e a =
       let there : r ≤ h.round y.from = omega (arith, t.entered) in
@@ -158,7 +160,7 @@ module _ (c : CardState) (h : Past) (q r : ℕ) (few : c.count ≤ 6) (bq : q < 
       (λ z. t.knew z ∙ ap (λ j. h.knew y.from j z) e ∙ sym (a.moved.knew_stays y.from r z there))
       t.fits)
 
-  pub takes_in : (k : ℕ) (s : SeatState) (xs : List (Item LoadState)) → AllByRecursion (SaysIn c.count h k) xs → Sits c.count (fates_of c) h q r s
+  pub takes_in : (k : ℕ) (s : Seat) (xs : List (Item Load)) → AllByRecursion (SaysIn c.count h k) xs → Sits c.count (fates_of c) h q r s
       → Sits c.count (fates_of c) h q r (taking_in c k q s xs)
   takes_in k s [] t a = a
   takes_in k s (y ∷ ys) t a =
@@ -173,24 +175,24 @@ module _ (c : CardState) (h : Past) (q r : ℕ) (few : c.count ≤ 6) (bq : q < 
 -- Whom a card has counted it goes on counting, and it counts every unsuspected sender of an item for its round.
 
 module _ (c : CardState) (q : ℕ) where
-  pub hearing_grows : (from known : ℕ) (s : SeatState) (p : ℕ) → has s.counted p ≡ true → has (hearing c q from known s).counted p ≡ true
+  pub hearing_grows : (from known : ℕ) (s : Seat) (p : ℕ) → has s.counted p ≡ true → has (hearing c q from known s).counted p ≡ true
   hearing_grows from known s p e =
       cond_both (suspects_in c q from) s (record { round = s.round; counted = added s.counted from; known = bit_or s.known known }) (λ t. has t.counted p ≡ true)
       (λ _. e)
       (λ _. has_added s.counted from p ∙ or_left _ _ e)
 
-  pub taking_grows : (k : ℕ) (s : SeatState) (xs : List (Item LoadState)) (p : ℕ) → has s.counted p ≡ true → has (taking_in c k q s xs).counted p ≡ true
+  pub taking_grows : (k : ℕ) (s : Seat) (xs : List (Item Load)) (p : ℕ) → has s.counted p ≡ true → has (taking_in c k q s xs).counted p ≡ true
   taking_grows k s [] p e = e
   taking_grows k s (y ∷ ys) p e =
       taking_grows k (taking_one c k q s y) ys p
       (cond_both (is_for k s.round q y) (hearing c q y.from y.load.known s) s (λ t. has t.counted p ≡ true) (λ _. hearing_grows y.from y.load.known s p e) (λ _. e))
 
-  pub hearing_counts : (from known : ℕ) (s : SeatState) → from < 32 → suspects_in c q from ≡ false → has (hearing c q from known s).counted from ≡ true
+  pub hearing_counts : (from known : ℕ) (s : Seat) → from < 32 → suspects_in c q from ≡ false → has (hearing c q from known s).counted from ≡ true
   hearing_counts from known s l u =
       ap (λ t. has t.counted from) (cond-false (suspects_in c q from) s (record { round = s.round; counted = added s.counted from; known = bit_or s.known known }) u)
       ∙ has_added s.counted from from ∙ or_right (has s.counted from) _ (and_from _ _ (lt-ltb from 32 l) (eq-eqb from from refl))
 
-  pub taking_counts : (k r : ℕ) (s : SeatState) (xs : List (Item LoadState)) (p : ℕ) → s.round ≡ r → p < 32 → suspects_in c q p ≡ false → any_of (brings k r p q) xs ≡ true → has (taking_in c k q s xs).counted p ≡ true
+  pub taking_counts : (k r : ℕ) (s : Seat) (xs : List (Item Load)) (p : ℕ) → s.round ≡ r → p < 32 → suspects_in c q p ≡ false → any_of (brings k r p q) xs ≡ true → has (taking_in c k q s xs).counted p ≡ true
   taking_counts k r s [] p e l u b = absurd (both_ways false refl b)
   taking_counts k r s (y ∷ ys) p e l u b =
       ⊎_elim
@@ -201,7 +203,7 @@ module _ (c : CardState) (q : ℕ) where
       let f : y.from ≡ p = eqb-true _ _ j.0 in
       let now : is_for k s.round q y ≡ true = and_from _ _ i.0 (and_from _ _ (ap (nat_eq y.load.round) e ∙ i.1) j.1) in
       taking_grows k (taking_one c k q s y) ys p
-      (ap (λ (v : SeatState). has v.counted p) (cond-true (is_for k s.round q y) (hearing c q y.from y.load.known s) s now)
+      (ap (λ (v : Seat). has v.counted p) (cond-true (is_for k s.round q y) (hearing c q y.from y.load.known s) s now)
       ∙ subst (λ v. has (hearing c q v y.load.known s).counted p ≡ true) (sym f) (hearing_counts p y.load.known s l u)))
       (λ t. taking_counts k r (taking_one c k q s y) ys p (taking_one_round c k q s y ∙ e) l u t)
       (or_cases _ _ b)

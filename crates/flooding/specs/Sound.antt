@@ -3,29 +3,30 @@ use Rattle.std.specs.Prelude.{◌≡◌, ℕ, suc, ◌^◌, ◌<◌, ◌≤◌, 
 use Rattle.std.specs.List.{AllByRecursion}
 use Rattle.notes.specs.Sets.{has, low}
 use Rattle.cards.specs.Cards.{crashed_in, SoundCards}
-use Rattle.tables.specs.Tables.{ballot_in}
+use Rattle.tables.specs.Tables.{Shaped, ballot_in}
 use Rattle.wire.specs.Wires.{any_of}
 use Rattle.wire.specs.declared.Item.{Item}
 use Rattle.histories.specs.Histories.{Past, History}
 use Rattle.histories.specs.Moves.{heard_of}
-use Rattle.flooding.specs.Seats.{SeatState, seat_in}
-use Rattle.flooding.specs.Mail.{LoadState}
+use Rattle.flooding.specs.Seats.{seat_in}
+use Rattle.flooding.specs.declared.seats.Seat.{Seat}
+use Rattle.flooding.specs.declared.mail.Load.{Load}
 use Rattle.flooding.specs.Flooding.{FloodingState, proposal_of, may_move}
-use Rattle.flooding.specs.Made.{Shaped, fates_of, brings, Underway}
+use Rattle.flooding.specs.Made.{fates_of, brings, Underway}
 
 -- The round of a card as its history counts it: one beyond the last once it has decided.
-abbrev pub stage_from : ℕ → Option ℕ → SeatState → ℕ
+abbrev pub stage_from : ℕ → Option ℕ → Seat → ℕ
 stage_from n d s = cond (is_some d) (suc n) s.round
 
 -- The seat of card p holds what the history says of its round: whom it has counted, and what it has heard.
-pub record Seated (n : ℕ) (h : Past) (p : ℕ) (s : SeatState) : Type 0 where
+pub record Seated (n : ℕ) (h : Past) (p : ℕ) (s : Seat) : Type 0 where
   pub in_rounds : s.round ≤ n
   pub fits : s.known < 2 ^ 32
   pub counts : (y : ℕ) → y < n → has s.counted y ≡ h.counted p s.round y
   pub knows : (z : ℕ) → 1 ≤ s.round → has s.known z ≡ heard_of n h p s.round z
 
 -- Card p stands in instance k where the history says: t are the proposals, d is its decision, s its seat.
-pub record Stands (n : ℕ) (h : Past) (t : List (List (Option ℕ))) (k p : ℕ) (d : Option ℕ) (s : SeatState) : Type 0 where
+pub record Stands (n : ℕ) (h : Past) (t : List (List (Option ℕ))) (k p : ℕ) (d : Option ℕ) (s : Seat) : Type 0 where
   pub stage : h.round p ≡ stage_from n d s
   pub proposed : is_some (ballot_in t k p) ≡ nat_lt 0 s.round
   pub seated : Seated n h p s
@@ -33,7 +34,7 @@ pub record Stands (n : ℕ) (h : Past) (t : List (List (Option ℕ))) (k p : ℕ
   pub decided : (v : ℕ) → d ≡ Some v → (s.round ≡ n) × (proposal_of t k (low s.known) ≡ Some v)
 
 -- An item says what its sender knew on entering its round.
-pub record Says (n : ℕ) (h : Past) (y : Item LoadState) : Type 0 where
+pub record Says (n : ℕ) (h : Past) (y : Item Load) : Type 0 where
   pub sender : y.from < n
   pub receiver : y.to < n
   pub others : y.to ≡ y.from → ⊥
@@ -44,7 +45,7 @@ pub record Says (n : ℕ) (h : Past) (y : Item LoadState) : Type 0 where
   pub fits : y.load.known < 2 ^ 32
 
 -- It does so if it is of instance k.
-abbrev pub SaysIn : ℕ → Past → ℕ → Item LoadState → Type 0
+abbrev pub SaysIn : ℕ → Past → ℕ → Item Load → Type 0
 SaysIn n h k y = y.load.instance ≡ k → Says n h y
 
 -- The state of instance k is that of a history.

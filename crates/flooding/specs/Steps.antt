@@ -4,14 +4,15 @@ use Rattle.std.proofs.Common.{sym, ap, subst, ◌∙◌, inl, inr, ⊎_elim, ari
 use Rattle.std.proofs.lemmas.Bool.{cases_Bool, cases_eq, both_ways, cond_both, cond-true, cond-false, ltb-true, ltb-false}
 use Rattle.notes.specs.Sets.{low}
 use Rattle.cards.specs.Cards.{CardState, crashed_in}
-use Rattle.tables.specs.Tables.{ballot_in, with_ballot}
-use Rattle.flooding.specs.Seats.{SeatState, no_seat, seat_in, with_seat, entering, ready}
+use Rattle.tables.specs.Tables.{Shaped, ballot_in, with_ballot}
+use Rattle.flooding.specs.Seats.{no_seat, seat_in, with_seat, entering, ready}
+use Rattle.flooding.specs.declared.seats.Seat.{Seat}
 use Rattle.flooding.specs.Mail.{taking_in}
 use Rattle.flooding.specs.Flooding.{FloodingState, seat_on, enter_on, decide_on, proposal_of, may_move, move_on, step_on, steps_on, settle_on, through_on}
-use Rattle.flooding.specs.Made.{Shaped}
 use Rattle.flooding.specs.Sound.{stage_from, SoundFlooding}
 use Rattle.flooding.specs.Mails.{taking_round}
-use Rattle.flooding.specs.Works.{cell_same, cell_other, shaped_after, may_move_means, step_cards}
+use Rattle.tables.proofs.Written.{shaped_after}
+use Rattle.flooding.specs.Works.{cell_same, cell_other, may_move_means, step_cards}
 use Rattle.flooding.specs.Actions.{Elsewhere}
 use Rattle.flooding.specs.Enters.{next_whole, choice, decide_whole}
 
@@ -22,15 +23,15 @@ abbrev stage_in : FloodingState → ℕ → ℕ → ℕ
 stage_in x k q = stage_from x.cards.count (ballot_in x.decisions k q) (seat_in x.seats k q)
 
 -- Whether a card may move depends on its seat and its decision.
-pub seat_stays : (x : FloodingState) (k q j p : ℕ) (s : SeatState) → SoundFlooding x → k < 32 → q < x.cards.count → Elsewhere k q j p → may_move (seat_on x k q s) j p ≡ may_move x j p
+pub seat_stays : (x : FloodingState) (k q j p : ℕ) (s : Seat) → SoundFlooding x → k < 32 → q < x.cards.count → Elsewhere k q j p → may_move (seat_on x k q s) j p ≡ may_move x j p
 seat_stays x k q j p s g hk bq e =
     ap (λ u. nat_lt p x.cards.count && (not (is_some (ballot_in x.decisions j p)) && ready x.cards p u)) (cell_other x.seats k q j p s no_seat g.seats_shaped hk (omega (arith, g.sound.few)) e)
 
 module _ (x : FloodingState) (k q : ℕ) (g : Shaped x.seats) (hk : k < 32) (six : q < 6) (r known : ℕ) where
-  abbrev first : List (List SeatState)
+  abbrev first : List (List Seat)
   first = with_seat x.seats k q (entering q r known)
 
-  abbrev last : SeatState
+  abbrev last : Seat
   last = taking_in x.cards k q (seat_in first k q) x.kept
 
   entered_shaped : Shaped first
@@ -38,9 +39,9 @@ module _ (x : FloodingState) (k q : ℕ) (g : Shaped x.seats) (hk : k < 32) (six
 
   enter_round : (seat_in (enter_on x k q r known).seats k q).round ≡ r
   enter_round =
-      ap (λ (s : SeatState). s.round) (cell_same first k q last no_seat entered_shaped hk six)
+      ap (λ (s : Seat). s.round) (cell_same first k q last no_seat entered_shaped hk six)
       ∙ taking_round x.cards k q (seat_in first k q) x.kept
-      ∙ ap (λ (s : SeatState). s.round) (cell_same x.seats k q (entering q r known) no_seat g hk six)
+      ∙ ap (λ (s : Seat). s.round) (cell_same x.seats k q (entering q r known) no_seat g hk six)
 
   pub enter_stays : (j p : ℕ) → Elsewhere k q j p → may_move (enter_on x k q r known) j p ≡ may_move x j p
   enter_stays j p e =

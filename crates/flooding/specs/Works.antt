@@ -1,33 +1,30 @@
 -- A move does not raise the work: what entering a round sends, it had still to send.
 use Rattle.std.specs.Prelude.{◌≡◌, ℕ, zero, suc, ◌+◌, ◌-◌, ◌*◌, ◌<◌, ◌≤◌, true, false, cond, not, ◌&&◌, List, [], is_some, ◌==◌, ◌≢◌, nat_lt, slice_index_or, slice_set, refl}
-use Rattle.std.proofs.Common.{sym, ap, subst, ◌∙◌, ⊎_elim, arith, length-set}
+use Rattle.std.proofs.Common.{sym, ap, subst, ◌∙◌, ⊎_elim, arith}
 use Rattle.std.proofs.lemmas.List.{length-append}
 use Rattle.std.proofs.lemmas.Bool.{cases_Bool, cases_eq, cond-true, cond-false, cond_both, and_parts, and_from, eqb-true, eq-eqb, ltb-true, lt-ltb, not_from_false, not-true}
-use Rattle.tables.specs.Tables.{ballot_in}
+use Rattle.tables.specs.Tables.{Shaped, ballot_in}
 use Rattle.cards.specs.Cards.{CardState, crashed_in}
 use Rattle.wire.specs.Wires.{sent}
-use Rattle.cards.proofs.Lists.{row_written, rows_kept}
+use Rattle.tables.proofs.Written.{place_written, shaped_after}
 use Rattle.wire.proofs.Wires.{length_sent_others}
-use Rattle.flooding.specs.Seats.{SeatState, no_seat, seat_in, with_seat, entering, all_counted}
-use Rattle.flooding.specs.Mail.{LoadState, taking_in}
+use Rattle.flooding.specs.Seats.{no_seat, seat_in, with_seat, entering, all_counted}
+use Rattle.flooding.specs.declared.seats.Seat.{Seat}
+use Rattle.flooding.specs.Mail.{taking_in}
+use Rattle.flooding.specs.declared.mail.Load.{Load}
 use Rattle.flooding.specs.Flooding.{FloodingState, total, to_send, flooding_work, enter_on, decide_on, may_move, move_on, step_on}
-use Rattle.flooding.specs.Made.{Shaped}
 use Rattle.flooding.specs.Mails.{taking_round}
 
 -- A table, after one cell is written.
 
 pub cell_same : {X : Type 0} (t : List (List X)) (k q : ℕ) (v d : X) → Shaped t → k < 32 → q < 6 → slice_index_or (slice_index_or (slice_set t k (slice_set (slice_index_or t k []) q v)) k []) q d ≡ v
 cell_same t k q v d g hk hq =
-    row_written t k q k q v d (omega (arith, g.instances)) (omega (arith, g.row k hk)) ∙ cond-true _ _ _ (and_from _ _ (eq-eqb k k refl) (eq-eqb q q refl))
+    place_written t k q k q v d g hk hq ∙ cond-true _ _ _ (and_from _ _ (eq-eqb k k refl) (eq-eqb q q refl))
 
 pub cell_other : {X : Type 0} (t : List (List X)) (k q j p : ℕ) (v d : X) → Shaped t → k < 32 → q < 6 → ((j ≡ k) × (p ≡ q) → ⊥) → slice_index_or (slice_index_or (slice_set t k (slice_set (slice_index_or t k []) q v)) j []) p d ≡ slice_index_or (slice_index_or t j []) p d
 cell_other t k q j p v d g hk hq e =
-    row_written t k q j p v d (omega (arith, g.instances)) (omega (arith, g.row k hk))
+    place_written t k q j p v d g hk hq
     ∙ ⊎_elim (λ b. absurd (let h = and_parts (j == k) (p == q) b in e (eqb-true j k h.0, eqb-true p q h.1))) (λ b. cond-false _ _ _ b) (cases_Bool (j == k && p == q))
-
--- A table that is written keeps its shape.
-pub shaped_after : {X : Type 0} (t : List (List X)) (k q : ℕ) (v : X) → Shaped t → k < 32 → Shaped (slice_set t k (slice_set (slice_index_or t k []) q v))
-shaped_after t k q v g hk = record { instances = simp length-set g.instances; row = rows_kept t 32 6 k q v (omega (arith, g.instances)) g.row }
 
 -- Sums, where one part falls and none rises.
 
@@ -47,7 +44,7 @@ total_trade f g (suc m) q less more l h e =
     (cases_eq q m)
 
 -- What a running card in round r still has to send.
-sends : (c : CardState) (s : SeatState) (p : ℕ) → crashed_in c p ≡ false → 0 < s.round → to_send c s p ≡ (c.count - 1) * (c.count - s.round)
+sends : (c : CardState) (s : Seat) (p : ℕ) → crashed_in c p ≡ false → 0 < s.round → to_send c s p ≡ (c.count - 1) * (c.count - s.round)
 sends c s p u o = cond-true _ _ _ (and_from _ _ (not_from_false _ u) (lt-ltb 0 s.round o))
 
 one_round_less : (w n r : ℕ) → r < n → w * (n - (r + 1)) + w ≡ w * (n - r)
@@ -57,7 +54,7 @@ one_round_less w n r l =
     rw e (omega arith)
 
 -- Where every round stays, so does all that is still to be sent.
-pub same_rounds : (c : CardState) (t u : List (List SeatState)) → ((k p : ℕ) → (seat_in u k p).round ≡ (seat_in t k p).round)
+pub same_rounds : (c : CardState) (t u : List (List Seat)) → ((k p : ℕ) → (seat_in u k p).round ≡ (seat_in t k p).round)
     → total (λ k. total (λ p. to_send c (seat_in u k p) p) c.count) 32 ≤ total (λ k. total (λ p. to_send c (seat_in t k p) p) c.count) 32
 same_rounds c t u h =
     total_below (λ k. total (λ p. to_send c (seat_in u k p) p) c.count) (λ k. total (λ p. to_send c (seat_in t k p) p) c.count) 32
@@ -70,7 +67,7 @@ pub may_move_means : (x : FloodingState) (k q : ℕ) → may_move x k q ≡ true
     → (q < x.cards.count) × (is_some (ballot_in x.decisions k q) ≡ false) × (0 < (seat_in x.seats k q).round) × (all_counted x.cards q (seat_in x.seats k q) x.cards.count ≡ true)
 may_move_means x k q m =
     let n : ℕ = x.cards.count in
-    let s : SeatState = seat_in x.seats k q in
+    let s : Seat = seat_in x.seats k q in
     let a = and_parts (nat_lt q n) (not (is_some (ballot_in x.decisions k q)) && (nat_lt 0 s.round && all_counted x.cards q s n)) m in
     let b = and_parts (not (is_some (ballot_in x.decisions k q))) (nat_lt 0 s.round && all_counted x.cards q s n) a.1 in
     let c = and_parts (nat_lt 0 s.round) (all_counted x.cards q s n) b.1 in
@@ -86,13 +83,13 @@ module _ (x : FloodingState) (k q : ℕ) (g : Shaped x.seats) (hk : k < 32) (few
       let six : q < 6 = omega arith in
       let first = with_seat x.seats k q (entering q r known) in
       let g' = shaped_after x.seats k q (entering q r known) g hk in
-      let here : SeatState = seat_in first k q in
-      let last : SeatState = taking_in c k q here x.kept in
-      let seats : List (List SeatState) = with_seat first k q last in
+      let here : Seat = seat_in first k q in
+      let last : Seat = taking_in c k q here x.kept in
+      let seats : List (List Seat) = with_seat first k q last in
       let other : (j p : ℕ) → ((j ≡ k) × (p ≡ q) → ⊥) → seat_in seats j p ≡ seat_in x.seats j p =
       λ j p d. cell_other first k q j p last no_seat g' hk six d ∙ cell_other x.seats k q j p (entering q r known) no_seat g hk six d in
       let now : (seat_in seats k q).round ≡ r =
-      ap (λ (s : SeatState). s.round) (cell_same first k q last no_seat g' hk six) ∙ taking_round c k q here x.kept ∙ ap (λ (s : SeatState). s.round) (cell_same x.seats k q (entering q r known) no_seat g hk six) in
+      ap (λ (s : Seat). s.round) (cell_same first k q last no_seat g' hk six) ∙ taking_round c k q here x.kept ∙ ap (λ (s : Seat). s.round) (cell_same x.seats k q (entering q r known) no_seat g hk six) in
       let after : to_send c (seat_in seats k q) q ≡ (n - 1) * (n - r) = sends c (seat_in seats k q) q up (omega arith) ∙ ap (λ i. (n - 1) * (n - i)) now in
       let row : total (λ p. to_send c (seat_in seats k p) p) n + (n - 1) ≤ total (λ p. to_send c (seat_in x.seats k p) p) n + more =
       total_trade (λ p. to_send c (seat_in seats k p) p) (λ p. to_send c (seat_in x.seats k p) p) n q (n - 1) more hq
@@ -101,7 +98,7 @@ module _ (x : FloodingState) (k q : ℕ) (g : Shaped x.seats) (hk : k < 32) (few
       total_trade (λ j. total (λ p. to_send c (seat_in seats j p) p) n) (λ j. total (λ p. to_send c (seat_in x.seats j p) p) n) 32 k (n - 1) more hk
       (λ j d. total_below (λ p. to_send c (seat_in seats j p) p) (λ p. to_send c (seat_in x.seats j p) p) n
       (λ p _. let e : to_send c (seat_in seats j p) p ≡ to_send c (seat_in x.seats j p) p = ap (λ s. to_send c s p) (other j p (λ z. d z.0)) in omega arith)) row in
-      let load : LoadState = record { instance = k; round = here.round; known = here.known } in
+      let load : Load = record { instance = k; round = here.round; known = here.known } in
       omega (arith, all, length-append x.wire (sent c q load n), length_sent_others c q load n hq)
 
   -- From one round to the next, what is sent was still to be sent.

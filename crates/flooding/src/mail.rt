@@ -1,7 +1,5 @@
 ghost use Rattle.std.specs.Prelude.{◌≡◌};
-ghost use Rattle.cards.specs.Cards.{cards_of};
-ghost use Rattle.flooding.specs.Mail.{item_state, mail_of, taking_one, taking_in};
-ghost use Rattle.flooding.specs.Seats.{seat_of};
+ghost use Rattle.flooding.specs.Mail.{taking_one, taking_in};
 
 use crate::seats::{Place, Seat};
 use cards::Cards;
@@ -17,16 +15,16 @@ pub struct Load {
 }
 
 // The card takes in what is kept for its round.
+// A place goes beside its seat here and in `Seats`: a table finds the seat by the place, so a struct of both would be taken apart in every call.
 pub(crate) fn take_in(kept: &Wire<Load>, cards: &Cards, place: Place, seat: Seat) -> Seat
-    ensures seat { seat_of result ≡ taking_in (cards_of cards.now) place.instance place.card (seat_of seat) (mail_of kept.now) }
-    ensures round { result.round ≡ seat.round }
+    ensures { result ≡ taking_in cards.now place.instance place.card seat kept.now.items }
 {
     kept.iter().fold(seat, |taken, item| take_in_one(cards, place, taken, *item))
 }
 
 // Whether the card suspects the sender is judged now.
 fn take_in_one(cards: &Cards, place: Place, seat: Seat, item: Item<Load>) -> Seat
-    ensures { seat_of result ≡ taking_one (cards_of cards.now) place.instance place.card (seat_of seat) (item_state item) }
+    ensures { result ≡ taking_one cards.now place.instance place.card seat item }
 {
     let load = item.load;
     if load.instance == place.instance && load.round == seat.round && item.to == place.card {

@@ -1,4 +1,5 @@
 use notes::set::NoteSet;
+use std::marker::Model;
 
 pub mod methods;
 
@@ -22,4 +23,13 @@ pub struct Seat {
 #[derive(Drop)]
 pub struct Seats {
     rows: [[Seat; 6]; 32],
+}
+
+impl Model for Seats {
+    ghost use Rattle.std.specs.Prelude.{List};
+    ghost use Rattle.flooding.specs.declared.seats.Seat.{Seat};
+
+    ghost Value = { List (List Seat) };
+
+    ghost view = { λ t. t.rows };
 }

@@ -1,13 +1,7 @@
-ghost use Rattle.std.specs.Prelude.{◌≤◌};
-ghost use Rattle.tables.specs.Tables.{ballots_of};
-ghost use Rattle.wire.specs.Wires.{room_of};
-ghost use Rattle.flooding.specs.Mail.{mail_of};
-ghost use Rattle.flooding.specs.Room.{demand};
-ghost use Rattle.flooding.specs.Seats.{seats_of};
-
 use crate::mail::Load;
 use crate::seats::Seats;
 use cards::Cards;
+use std::marker::Model;
 use tables::ballots::Ballots;
 use wire::Wire;
 
@@ -25,8 +19,16 @@ pub struct Flooding {
     seats: Seats,
     wire: Wire<Load>,
     kept: Wire<Load>,
+}
+
+impl Model for Flooding {
+    ghost use Rattle.flooding.specs.Enough.{HasRoom};
+    ghost use Rattle.flooding.specs.Flooding.{FloodingState};
+
+    ghost Value = { FloodingState };
+
+    ghost view = { λ f. record { cards = f.cards; proposals = f.proposals; decisions = f.decisions; seats = f.seats; wire = f.wire.items; kept = f.kept.items } };
+
     // There is room for every item that is still to be sent, and for keeping it.
-    ghost sendable: { 5760 ≤ room_of wire },
-    ghost keepable: { 5760 ≤ room_of kept },
-    ghost room: { demand (mail_of wire) (mail_of kept) (ballots_of proposals) (seats_of seats) ≤ 5760 },
+    ghost invariant = { λ f. HasRoom f.cards f.wire f.kept f.proposals f.seats };
 }

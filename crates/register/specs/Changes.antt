@@ -1,11 +1,9 @@
 -- What a proposal and a carry change in the tables of a register.
-use Rattle.std.specs.Prelude.{◌≡◌, ℕ, ◌<◌, Bool, true, false, cond, ◌&&◌, ◌||◌, ◌⊎◌, List, [], length, is_some, Some, None, Option, ◌==◌, slice_index_or, slice_set, refl}
-use Rattle.std.proofs.Common.{sym, ap, ◌∙◌, inl, inr, ⊎_elim, arith, length-set, get_or-set_same, get_or-set_other}
+use Rattle.std.specs.Prelude.{◌≡◌, ℕ, ◌<◌, Bool, true, false, cond, ◌&&◌, ◌||◌, ◌⊎◌, List, length, is_some, Some, None, Option, ◌==◌, slice_set, refl}
+use Rattle.std.proofs.Common.{sym, ap, ◌∙◌, inl, inr, ⊎_elim, length-set, get_or-set_same, get_or-set_other}
 use borrow.Author.Tests.{clash}
-use Rattle.std.proofs.lemmas.List.{get_or_past}
-use Rattle.std.proofs.lemmas.Bool.{cases_Bool, cases_lt, cond-true, cond-false, cond_both, and_parts, eqb-true}
-use Rattle.tables.specs.Tables.{Shaped, ballot_in, with_ballot}
-use Rattle.cards.proofs.Lists.{written, row_written, rows_kept}
+use Rattle.std.proofs.lemmas.Bool.{cases_Bool, cond-true, cond-false, cond_both, and_parts, eqb-true}
+use Rattle.cards.proofs.Lists.{written}
 use Rattle.register.specs.Held.{held_in, filled}
 
 -- A place that may have been written.
@@ -20,17 +18,6 @@ which false x y z e = inr (refl, e)
 
 pub same_place : (a b c d : ℕ) → (a == c && b == d) ≡ true → (a ≡ c) × (b ≡ d)
 same_place a b c d h = let p = and_parts _ _ h in (eqb-true a c p.0, eqb-true b d p.1)
-
--- Tables of proposals and decisions.
-
-pub ballot_written : (t : List (List (Option ℕ))) (k p j q : ℕ) (o : Option ℕ) → Shaped t → k < 32 → p < 6 → ballot_in (with_ballot t k p o) j q ≡ cond (j == k && q == p) o (ballot_in t j q)
-ballot_written t k p j q o g hk hp = row_written t k p j q o None (omega (arith, g.instances)) (omega (arith, g.row k hk))
-
-pub shaped_after : (t : List (List (Option ℕ))) (k p : ℕ) (o : Option ℕ) → Shaped t → k < 32 → Shaped (with_ballot t k p o)
-shaped_after t k p o g hk = record { instances = simp length-set g.instances; row = rows_kept t 32 6 k p o (omega (arith, g.instances)) g.row }
-
-pub instance_below : (t : List (List (Option ℕ))) (k p : ℕ) → Shaped t → is_some (ballot_in t k p) ≡ true → k < 32
-instance_below t k p g h = ⊎_elim (λ l. l) (λ l. absurd (clash (sym (ap (λ r. is_some (slice_index_or {A = Option ℕ} r p None)) (get_or_past t k [] (omega (arith, g.instances)))) ∙ h))) (cases_lt k 32)
 
 -- Registers.
 

@@ -1,5 +1,5 @@
 -- `new` and the calls make registers that hold together.
-use Rattle.std.specs.Prelude.{◌≡◌, ℕ, ◌^◌, ◌<◌, Bool, true, false, cond, not, ◌&&◌, ◌||◌, ◌⊎◌, List, [], ◌∷◌, length, replicate, is_some, Some, None, Option, ◌==◌, refl, Ok}
+use Rattle.std.specs.Prelude.{◌≡◌, ℕ, ◌^◌, ◌<◌, Bool, true, false, cond, not, ◌&&◌, ◌||◌, ◌⊎◌, List, [], ◌∷◌, length, is_some, Some, None, Option, ◌==◌, refl, Ok}
 use Rattle.std.proofs.Common.{sym, ap, subst, ◌∙◌, inl, inr, ⊎_elim, arith}
 use borrow.Author.Tests.{clash}
 use Rattle.std.specs.List.{slice_get, remove, AllByRecursion}
@@ -9,27 +9,25 @@ use Rattle.parts.specs.Refusals.{propose_answer, carry_answer, lose_answer, cras
 use Rattle.parts.proofs.Accepted.{propose_accepted, crash_accepted, suspect_accepted}
 use Rattle.parts.proofs.Options.{some_held}
 use Rattle.cards.specs.Cards.{CardState, crashed_in, with_crash, with_suspicion}
-use Rattle.tables.specs.Tables.{Shaped, Shaped, new_ballots, ballot_in, with_ballot}
+use Rattle.tables.specs.Tables.{Shaped, ballot_in, with_ballot}
 use Rattle.wire.specs.Wires.{item, any_of}
 use Rattle.wire.specs.declared.Item.{Item}
 use Rattle.wire.proofs.Items.{all_removed, all_nth, any_append, any_split}
-use Rattle.cards.proofs.Lists.{same_all, same_rows, new_row}
+use Rattle.cards.proofs.Lists.{same_all, same_rows}
 use Rattle.cards.proofs.Nets.{new_sound, crash_sound, crash_more, suspect_sound}
 use Rattle.wire.proofs.Taken.{carried_item, lost_item}
 use Rattle.register.specs.Held.{held_in}
 use Rattle.register.specs.Register.{RegisterState, seen, new_register, propose_on, carry_on, fill_by, decide_by, lose_on, crash_on, suspect_on}
 use Rattle.register.specs.Made.{Underway, brings, MadeRegister}
-use Rattle.register.specs.Changes.{some_or, which, same_place, ballot_written, shaped_after, instance_below, filled_length, filled_stays, filled_holds, filled_from}
-
-new_shaped : Shaped new_ballots
-new_shaped = record { instances = refl; row = λ k h. new_row 32 k (replicate 6 None) h }
+use Rattle.tables.proofs.Written.{new_shaped, shaped_after, place_written, instance_below}
+use Rattle.register.specs.Changes.{some_or, which, same_place, filled_length, filled_stays, filled_holds, filled_from}
 
 pub new_made : (n : ℕ) → MadeRegister (new_register n)
 new_made n =
     record {
       sound = new_sound n;
-      proposals_shaped = new_shaped;
-      decisions_shaped = new_shaped;
+      proposals_shaped = new_shaped None;
+      decisions_shaped = new_shaped None;
       held_shaped = refl;
       proposers = λ k p h. absurd (clash (sym (ap is_some (same_rows 32 6 k p None)) ∙ h));
       proposed_sets = λ k p s h. absurd (clash (ap is_some (sym (same_rows 32 6 k p None) ∙ h)));
@@ -45,7 +43,7 @@ new_made n =
 pub proposal_after : (x : RegisterState) (k p s j q : ℕ) → MadeRegister x → propose_answer (seen x) k p s ≡ Ok tt → ballot_in (with_ballot x.proposals k p (Some s)) j q ≡ cond (j == k && q == p) (Some s) (ballot_in x.proposals j q)
 proposal_after x k p s j q g h =
     let f = propose_accepted (seen x) k p s h in
-    ballot_written x.proposals k p j q (Some s) g.proposals_shaped f.3 (omega (arith, f.0, g.sound.few))
+    place_written x.proposals k p j q (Some s) None g.proposals_shaped f.3 (omega (arith, f.0, g.sound.few))
 
 proposed_stays : (x : RegisterState) (k p s j q r : ℕ) → MadeRegister x → propose_answer (seen x) k p s ≡ Ok tt → ballot_in x.proposals j q ≡ Some r → ballot_in (with_ballot x.proposals k p (Some s)) j q ≡ Some r
 proposed_stays x k p s j q r g h e =
@@ -103,7 +101,7 @@ decision_after x y j q g u =
     ⊎_elim
     (λ d. ap (λ t. ballot_in t j q) (cond-true (crashed_in x.cards p) old (with_ballot old k p o) d) ∙ sym (cond-false _ o (ballot_in old j q) (and_left _ _ (not_from_true _ d))))
     (λ d. ap (λ t. ballot_in t j q) (cond-false (crashed_in x.cards p) old (with_ballot old k p o) d)
-    ∙ ballot_written old k p j q o g.decisions_shaped (instance_below x.proposals k p g.proposals_shaped u.proposed) (omega (arith, u.card, g.sound.few))
+    ∙ place_written old k p j q o None g.decisions_shaped (instance_below x.proposals k p g.proposals_shaped u.proposed) (omega (arith, u.card, g.sound.few))
     ∙ ap (λ b. cond (b && (j == k && q == p)) o (ballot_in old j q)) (sym (not_from_false _ d)))
     (cases_Bool (crashed_in x.cards p))
 

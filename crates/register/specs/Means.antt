@@ -23,7 +23,8 @@ use Rattle.wire.proofs.Wires.{length_senders}
 use Rattle.register.specs.Held.{held_in}
 use Rattle.register.specs.Register.{RegisterState, seen, new_register, propose_on, carry_on, fill_by, decide_by, lose_on, crash_on, suspect_on}
 use Rattle.register.specs.Made.{Underway, brings, MadeRegister}
-use Rattle.register.specs.Changes.{same_place, instance_below, filled_stays}
+use Rattle.tables.proofs.Written.{instance_below}
+use Rattle.register.specs.Changes.{same_place, filled_stays}
 use Rattle.register.specs.Keeps.{proposal_after, decision_after}
 
 same_decisions : (v w : ConsensusView) → w.decision ≡ v.decision → DecidedMore v w

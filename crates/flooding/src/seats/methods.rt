@@ -1,9 +1,6 @@
-ghost use Rattle.std.specs.Prelude.{◌≡◌, ◌+◌, ◌≤◌};
-ghost use Rattle.notes.specs.Models.{bits};
-ghost use Rattle.cards.specs.Cards.{cards_of};
-ghost use Rattle.flooding.specs.Mail.{load_of, telling};
-ghost use Rattle.flooding.specs.Room.{rounds_after, rounds_left};
-ghost use Rattle.flooding.specs.Seats.{seat_of, seats_of, no_seat, new_seats, seat_in, with_seat, entering, hearing, accounted_for, all_counted, ready};
+ghost use Rattle.std.specs.Prelude.{◌≡◌, ◌+◌, ◌≤◌, replicate};
+ghost use Rattle.flooding.specs.Mail.{telling};
+ghost use Rattle.flooding.specs.Seats.{no_seat, new_seats, seat_in, with_seat, entering, hearing, accounted_for, all_counted, ready};
 
 use super::{Place, Seat, Seats};
 use crate::mail::Load;
@@ -15,8 +12,7 @@ use wire::Item;
 impl Seat {
     // A card enters a round: it has counted only itself.
     pub(crate) fn enter(card: usize, round: usize, known: NoteSet) -> Seat
-        ensures seat { seat_of result ≡ entering card round (bits known) }
-        ensures round { result.round ≡ round }
+        ensures { result ≡ entering card round known }
     {
         Seat {
             round,
@@ -27,7 +23,7 @@ impl Seat {
 
     // The seat of a card that has not proposed.
     fn vacant() -> Seat
-        ensures { seat_of result ≡ no_seat }
+        ensures { result ≡ no_seat }
     {
         Seat {
             round: 0,
@@ -38,8 +34,7 @@ impl Seat {
 
     // The card that an item is for counts its sender and takes over what that one knows, unless it suspects it.
     pub(crate) fn hear(self, cards: &Cards, item: Item<Load>) -> Seat
-        ensures seat { seat_of result ≡ hearing (cards_of cards.now) item.to item.from (bits item.load.known) (seat_of self) }
-        ensures round { result.round ≡ self.round }
+        ensures { result ≡ hearing cards.now item.to item.from item.load.known self }
     {
         if cards.suspects(item.to, item.from) {
             return self;
@@ -53,19 +48,19 @@ impl Seat {
 
     // It can move on that has proposed and has counted every card that it does not suspect.
     pub(crate) fn is_ready(self, cards: &Cards, card: usize) -> bool
-        ensures { result ≡ ready (cards_of cards.now) card (seat_of self) }
+        ensures { result ≡ ready cards.now card self }
     {
         self.round > 0 && self.is_complete(cards, card)
     }
 
     fn is_complete(self, cards: &Cards, card: usize) -> bool
-        ensures { result ≡ all_counted (cards_of cards.now) card (seat_of self) (cards_of cards.now).count }
+        ensures { result ≡ all_counted cards.now card self cards.now.count }
     {
         (0..cards.count()).all(|other| self.accounts_for(cards, card, other))
     }
 
     fn accounts_for(self, cards: &Cards, card: usize, other: usize) -> bool
-        ensures { result ≡ accounted_for (cards_of cards.now) card (seat_of self) other }
+        ensures { result ≡ accounted_for cards.now card self other }
     {
         cards.suspects(card, other) || self.counted.contains(other)
     }
@@ -73,16 +68,20 @@ impl Seat {
 
 impl Seats {
     pub(crate) fn new() -> Seats
-        ensures { seats_of result ≡ new_seats }
+        ensures { result ≡ new_seats }
     {
+        // A repeat of rows would want the row to be `Copy`, which an array of what has a `Model` is not yet.
         Seats {
-            rows: [[Seat::vacant(); 6]; 32],
+            rows: std::array::from_fn(
+                |_: usize| -> [Seat; 6]
+                    ensures { result ≡ replicate 6 no_seat }
+                { [Seat::vacant(); 6] },
+            ),
         }
     }
 
     pub(crate) fn of(&self, place: Place) -> Seat
-        ensures seat { seat_of result ≡ seat_in (seats_of self.now) place.instance place.card }
-        ensures round { result.round ≡ (seat_in (seats_of self.now) place.instance place.card).round }
+        ensures { result ≡ seat_in self.now place.instance place.card }
     {
         self.rows
             .get(place.instance)
@@ -93,7 +92,7 @@ impl Seats {
 
     // What a card tells the others: its round, and what it knows.
     pub(crate) fn load(&self, place: Place) -> Load
-        ensures { load_of result ≡ telling (seats_of self.now) place.instance place.card }
+        ensures { result ≡ telling self.now place.instance place.card }
     {
         let seat = self.of(place);
         Load {
@@ -105,8 +104,7 @@ impl Seats {
 
     // By index, since what `get_mut` lends of an array says nothing of the array afterwards.
     pub(crate) fn put(&mut self, place: Place, seat: Seat)
-        ensures seats { seats_of self.new ≡ with_seat (seats_of self.old) place.instance place.card (seat_of seat) }
-        ensures rounds { rounds_left (seats_of self.new) + rounds_after (seat_in (seats_of self.old) place.instance place.card).round ≤ rounds_left (seats_of self.old) + rounds_after seat.round }
+        ensures { self.new ≡ with_seat self.old place.instance place.card seat }
     {
         if self
             .rows

@@ -1,4 +1,4 @@
-ghost use Rattle.flooding.specs.Flooding.{FloodingState, flooding_of, flooding_cards, flooding_crashed, flooding_suspects, flooding_wire, flooding_work, flooding_proposal, flooding_decision, new_flooding, propose_on, carry_on, lose_on, crash_on, suspect_on};
+ghost use Rattle.flooding.specs.Flooding.{FloodingState, flooding_cards, flooding_crashed, flooding_suspects, flooding_wire, flooding_work, flooding_proposal, flooding_decision, new_flooding, propose_on, carry_on, lose_on, crash_on, suspect_on};
 ghost use Rattle.flooding.specs.Sound.{SettledFlooding};
 ghost use Rattle.std.proofs.Common.{arith};
 ghost use Rattle.flooding.specs.Keeps.{new_made, propose_made, carry_made, lose_made, crash_made, suspect_made};
@@ -24,7 +24,7 @@ const ROOM: usize = 5760;
 impl Consensus for Flooding {
     ghost State = { FloodingState };
 
-    ghost state = { flooding_of };
+    ghost state = { λ f. f };
 
     ghost cards = { flooding_cards };
 
@@ -73,6 +73,7 @@ impl Consensus for Flooding {
       lawful = lawful;
     } };
 
+    #[tactic(auto, using(crate::proofs::Rooms::new_rounds))]
     fn new(heap: Global, count: usize) -> Result<Flooding, AllocError> {
         let wire = Wire::new(heap, ROOM)?;
         let kept = Wire::new(heap, ROOM)?;
@@ -86,7 +87,9 @@ impl Consensus for Flooding {
         })
     }
 
+    // Instance, card and notes come one by one, as the interface and the table of proposals say them; from here on the first two are a place.
     // A proposer knows itself and enters round 1.
+    #[tactic(auto, using(crate::proofs::Rooms::rounds_first))]
     fn propose(&mut self, instance: usize, card: usize, notes: NoteSet) -> Result<(), Refusal> {
         self.proposals.propose(&self.cards, instance, card, notes)?;
         let place = Place { instance, card };
@@ -95,24 +98,18 @@ impl Consensus for Flooding {
         Ok(())
     }
 
-    #[tactic(auto, using(crate::proofs::Seen::items_seen))]
     fn carry(&mut self, item: usize) -> Result<(), Refusal> {
         let taken = self.wire.take(item).ok_or(Refusal::NoSuchItem)?;
         self.arrive(taken);
         Ok(())
     }
 
-    #[tactic(auto, using(crate::proofs::Seen::items_seen))]
     fn lose(&mut self, item: usize) -> Result<(), Refusal> {
         self.wire.lose(&self.cards, item)
     }
 
-    // A part's own cards and own wire, so each part says it: a function for both would take as many words to call.
-    #[tactic(auto, using(crate::proofs::Seen::items_seen))]
     fn crash(&mut self, card: usize) -> Result<(), Refusal> {
-        self.cards.crash(card)?;
-        self.wire.let_go(card);
-        Ok(())
+        self.wire.crash(&mut self.cards, card)
     }
 
     // The suspicion is worked through by ascending instance.
@@ -138,12 +135,10 @@ impl Consensus for Flooding {
         self.cards.suspects(by, card)
     }
 
-    #[tactic(auto, using(crate::proofs::Seen::items_seen))]
     fn wire_len(&self) -> usize {
         self.wire.len()
     }
 
-    #[tactic(auto, using(crate::proofs::Seen::items_seen))]
     fn sender_of(&self, item: usize) -> Option<usize> {
         self.wire.sender_of(item)
     }

@@ -1,11 +1,8 @@
 ghost use Rattle.std.specs.Prelude.{◌≡◌, true, is_some};
-ghost use Rattle.std.specs.Option.{option_map};
-ghost use Rattle.notes.specs.Models.{bits};
 ghost use Rattle.notes.specs.Sets.{low};
 ghost use Rattle.tables.specs.Tables.{ballot_in};
 ghost use Rattle.flooding.specs.Enough.{MayEnter, MayKeep};
-ghost use Rattle.flooding.specs.Flooding.{flooding_of, proposal_of, take_in_on, enter_on, decide_on, may_move, move_on, step_on, settle_on, through_on, arrive_on};
-ghost use Rattle.flooding.specs.Mail.{item_state};
+ghost use Rattle.flooding.specs.Flooding.{proposal_of, take_in_on, enter_on, decide_on, may_move, move_on, step_on, settle_on, through_on, arrive_on};
 ghost use Rattle.flooding.specs.Seats.{seat_in};
 
 use super::Flooding;
@@ -17,10 +14,10 @@ use wire::Item;
 
 impl Flooding {
     // The card enters a round: it has counted only itself, sends what it knows, and only then takes in what was kept for the round.
-    #[tactic(auto, using(crate::proofs::Seen::items_seen))]
+    #[tactic(auto, using(crate::proofs::Rooms::items_counted, crate::proofs::Rooms::left_after))]
     pub(super) fn enter(&mut self, place: Place, round: usize, known: NoteSet)
-        requires { MayEnter (flooding_of self.old) place.instance place.card round }
-        ensures { flooding_of self.new ≡ enter_on (flooding_of self.old) place.instance place.card round (bits known) }
+        requires { MayEnter self.old place.instance place.card round }
+        ensures { self.new ≡ enter_on self.old place.instance place.card round known }
     {
         self.seats.put(place, Seat::enter(place.card, round, known));
         self.wire
@@ -28,8 +25,9 @@ impl Flooding {
         self.take_in(place);
     }
 
+    #[tactic(auto, using(crate::proofs::Rooms::left_after, crate::specs::Mails::taking_round))]
     fn take_in(&mut self, place: Place)
-        ensures { flooding_of self.new ≡ take_in_on (flooding_of self.old) place.instance place.card }
+        ensures { self.new ≡ take_in_on self.old place.instance place.card }
     {
         let seat = self.seats.of(place);
         let taken = take_in(&self.kept, &self.cards, place, seat);
@@ -37,7 +35,7 @@ impl Flooding {
     }
 
     fn decide(&mut self, place: Place)
-        ensures { flooding_of self.new ≡ decide_on (flooding_of self.old) place.instance place.card }
+        ensures { self.new ≡ decide_on self.old place.instance place.card }
     {
         let choice = self.choice(place);
         self.decisions.put(place.instance, place.card, choice);
@@ -45,7 +43,7 @@ impl Flooding {
 
     // The proposal of the lowest card that the card knows.
     fn choice(&self, place: Place) -> Option<NoteSet>
-        ensures { option_map bits result ≡ proposal_of (flooding_of self.now).proposals place.instance (low (seat_in (flooding_of self.now).seats place.instance place.card).known) }
+        ensures { result ≡ proposal_of self.now.proposals place.instance (low (seat_in self.now.seats place.instance place.card).known) }
     {
         self.seats
             .of(place)
@@ -55,13 +53,13 @@ impl Flooding {
     }
 
     fn has_decided(&self, place: Place) -> bool
-        ensures { result ≡ is_some (ballot_in (flooding_of self.now).decisions place.instance place.card) }
+        ensures { result ≡ is_some (ballot_in self.now.decisions place.instance place.card) }
     {
         self.decisions.of(place.instance, place.card).is_some()
     }
 
     fn may_move(&self, place: Place) -> bool
-        ensures { result ≡ may_move (flooding_of self.now) place.instance place.card }
+        ensures { result ≡ may_move self.now place.instance place.card }
     {
         place.card < self.cards.count()
             && !self.has_decided(place)
@@ -69,9 +67,10 @@ impl Flooding {
     }
 
     // From the last round the card decides, from any other it enters the next.
+    #[tactic(auto, using(crate::proofs::Rooms::rounds_step))]
     fn move_on(&mut self, place: Place)
-        requires { may_move (flooding_of self.old) place.instance place.card ≡ true }
-        ensures { flooding_of self.new ≡ move_on (flooding_of self.old) place.instance place.card }
+        requires { may_move self.old place.instance place.card ≡ true }
+        ensures { self.new ≡ move_on self.old place.instance place.card }
     {
         let seat = self.seats.of(place);
         if seat.round < rounds(self.cards.count()) {
@@ -82,7 +81,7 @@ impl Flooding {
     }
 
     fn step(&mut self, place: Place)
-        ensures { flooding_of self.new ≡ step_on (flooding_of self.old) place.instance place.card }
+        ensures { self.new ≡ step_on self.old place.instance place.card }
     {
         if self.may_move(place) {
             self.move_on(place);
@@ -92,7 +91,7 @@ impl Flooding {
     // The card moves as often as it can: there are as many rounds as cards, and the last move is the decision.
     #[tactic(auto, using(crate::proofs::Turns::steps_none, crate::proofs::Turns::steps_more))]
     pub(super) fn settle(&mut self, place: Place)
-        ensures { flooding_of self.new ≡ settle_on (flooding_of self.old) place.instance place.card }
+        ensures { self.new ≡ settle_on self.old place.instance place.card }
     {
         for _turn in 0..self.cards.count() {
             self.step(place);
@@ -102,7 +101,7 @@ impl Flooding {
     // The card moves in each instance, ascending.
     #[tactic(auto, using(crate::proofs::Turns::through_none, crate::proofs::Turns::through_more))]
     pub(super) fn settle_all(&mut self, card: usize)
-        ensures { flooding_of self.new ≡ through_on (flooding_of self.old) card 32 }
+        ensures { self.new ≡ through_on self.old card 32 }
     {
         for instance in 0..32 {
             self.settle(Place { instance, card });
@@ -110,10 +109,10 @@ impl Flooding {
     }
 
     // An item has come, off a wire that it leaves room on.
-    #[tactic(auto, using(crate::proofs::Seen::items_seen))]
+    #[tactic(auto, using(crate::proofs::Rooms::left_after))]
     pub(super) fn arrive(&mut self, item: Item<Load>)
-        requires { MayKeep (flooding_of self.old) }
-        ensures { flooding_of self.new ≡ arrive_on (flooding_of self.old) (item_state item) }
+        requires { MayKeep self.old }
+        ensures { self.new ≡ arrive_on self.old item }
     {
         let place = Place {
             instance: item.load.instance,
