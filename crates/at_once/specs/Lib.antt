@@ -1,0 +1,4 @@
+pub mod AtOnce
+pub mod Made
+pub mod Changes
+pub mod Means
