@@ -6,8 +6,8 @@ Usage: tools/misreadings.py
 A wrong reading is a small change to the second carrier, tools/reference.py. A schedule tells it where the changed carrier's report is not
 the one that stands beside the schedule. Every reading is to be told by at least one schedule.
 
-The edits of the parts, crates/*/must-fail and crates/*/edits, are wrong readings too: each is to be named once, by the reading that stands
-for it, or below under a reason why no report can tell it. The exit status is 1 where anything of this is amiss.
+The edits of the parts and of the carrier, in must-fail and edits of their crates, are wrong readings too: each is to be named once, by the
+reading that stands for it, or below under a reason why no report can tell it. The exit status is 1 where anything of this is amiss.
 """
 import contextlib
 import os
@@ -16,7 +16,7 @@ import sys
 import reference as r
 
 READINGS = []
-PARTS = "allack board cards flooding histories inturn parts register relay spread tables wire".split()
+CRATES_WITH_EDITS = "allack board cards flooding histories inturn parts register relay spread tables total_order wire".split()
 
 
 def reading(words, owner, name, *edits):
@@ -46,6 +46,7 @@ UNTOLD = {
         "inturn/quiet_without_asking_below",
         "relay/says-it-is-uniform",
         "spread/quiet-asks-no-suspicion",
+        "total_order/quiet_turned_round",
     ],
     "nobody asks during a run who posted a note": [
         "allack/poster-of-the-first",
@@ -85,7 +86,13 @@ UNTOLD = {
     "the register does nothing at a suspicion, and the broadcast says whether it is accepted": ["register/suspects-backwards"],
     "the broadcast says first whether there is such a card": ["flooding/always_six_cards", "register/card-count-fixed"],
     "the broadcast says first whether there is such a card, and the register does the same for each": ["register/always-six-cards"],
-    "no file has seven cards": ["cards/seven-cards-make-six"],
+    "no file has seven cards or 33 notes": [
+        "cards/seven-cards-make-six",
+        "total_order/new_beyond_six_cards",
+        "total_order/new_consensus_of_more_cards",
+    ],
+    "what settle answers is not printed": ["total_order/settle_invents_its_count", "total_order/settle_reports_rest_at_its_limit"],
+    "the broadcast and the consensus know of the same crashes": ["total_order/has_crashed_asks_the_consensus"],
     "room is a question of memory; a wire of relay or all-ack never holds more than 800 items": ["spread/room-too-small", "wire/no-room-reserved"],
     "a card counts itself where it relays, so it has counted itself of every note that it can be handed": ["allack/new-counts-not-empty"],
     "an item of a past round comes from a card that its receiver suspects": ["flooding/item_of_a_past_round_counted"],
@@ -123,7 +130,7 @@ def _(right):
     return take
 
 
-@reading("a decision is taken twice", r.Carrier, "take")
+@reading("a decision is taken twice", r.Carrier, "take", "total_order/decision_taken_twice")
 def _(right):
     def take(self, p):
         right(self, p)
@@ -133,7 +140,7 @@ def _(right):
     return take
 
 
-@reading("waiting notes include the log", r.Carrier, "waiting")
+@reading("waiting notes include the log", r.Carrier, "waiting", "total_order/waiting_notes_of_the_log")
 def _(right):
     return lambda self, p: set(self.b.handed(p))
 
@@ -156,8 +163,8 @@ def _(right):
     return take
 
 
-def counts_refusals(name):
-    @reading("a refused %s is a step" % name, r.Carrier, name)
+def counts_refusals(name, *edits):
+    @reading("a refused %s is a step" % name, r.Carrier, name, *edits)
     def _(right):
         def call(self, *values):
             try:
@@ -169,8 +176,10 @@ def counts_refusals(name):
         return call
 
 
-for call in ("carry", "lose", "propose", "take"):
-    counts_refusals(call)
+counts_refusals("carry", "total_order/refusal_counted")
+counts_refusals("lose")
+counts_refusals("propose")
+counts_refusals("take")
 
 
 @reading("rest forgets the broadcast's wire", r.Carrier, "at_rest")
@@ -184,7 +193,7 @@ def _(right):
     return at_rest
 
 
-@reading("rest forgets the consensus's wire", r.Carrier, "at_rest")
+@reading("rest forgets the consensus's wire", r.Carrier, "at_rest", "total_order/rest_forgets_a_wire")
 def _(right):
     def at_rest(self):
         wire, self.c.wire = self.c.wire, []
@@ -200,7 +209,7 @@ def _(right):
     return lambda self, limit: right(self, 10**6 if limit else 0)
 
 
-@reading("settle makes one step too many", r.Carrier, "settle")
+@reading("settle makes one step too many", r.Carrier, "settle", "total_order/settle_one_step_beyond_its_limit")
 def _(right):
     return lambda self, limit: right(self, limit + 1)
 
@@ -224,19 +233,101 @@ def _(right):
     return carry
 
 
-@reading("a post beyond the book is accepted", r.Carrier, "post")
+@reading("a post beyond the book is accepted", r.Carrier, "post", "total_order/post_accepted_beyond_the_book")
 def _(right):
     return lambda self, p, m: self.b.post(p, m)
 
 
-@reading("a crash does not reach the consensus", r.Carrier, "crash")
+@reading("a crash does not reach the consensus", r.Carrier, "crash", "total_order/crash_kept_from_the_consensus")
 def _(right):
     return lambda self, p: self.b.crash(p)
 
 
-@reading("a suspicion does not reach the consensus", r.Carrier, "suspect")
+@reading("a suspicion does not reach the consensus", r.Carrier, "suspect", "total_order/suspicion_turned_round")
 def _(right):
     return lambda self, q, p: self.b.suspect(q, p)
+
+
+def steps_printed(words, change, edit):
+    @reading(words, r, "report", edit)
+    def _(right):
+        def report(data):
+            *lines, last = right(data).split("\n")[:-1]
+            fields = last.split(" ")
+            if fields[0] == "steps":
+                fields[1] = str(change(int(fields[1])))
+            return "".join(line + "\n" for line in lines + [" ".join(fields)])
+
+        return report
+
+
+steps_printed("no step is counted", lambda steps: 0, "total_order/step_not_counted")
+steps_printed("every other step is counted", lambda steps: steps // 2, "total_order/half_the_steps")
+
+
+@reading("a loss is a carry", r.Carrier, "lose", "total_order/call_of_a_loss_carries")
+def _(right):
+    return lambda self, w, i: self.carry(w, i)
+
+
+@reading("a loss on the consensus's wire is a carry", r.Carrier, "lose", "total_order/lose_that_carries")
+def _(right):
+    return lambda self, w, i: self.carry(w, i) if w == "c" else right(self, w, i)
+
+
+@reading("settle lets the highest card propose first", r.Carrier, "first_that", "total_order/propose_at_the_highest_card")
+def _(right):
+    def first_that(self, able):
+        cards = range(self.b.card_count())
+        return next((p for p in (reversed(cards) if able == self.can_propose else cards) if able(p)), None)
+
+    return first_that
+
+
+@reading("settle makes two steps for one", r.Carrier, "settle", "total_order/settle_made_in_its_first_step")
+def _(right):
+    return lambda self, limit: right(self, 2 * limit)
+
+
+@reading("whether a card can propose is asked in card 0's instance", r.Carrier, "can_propose", "total_order/can_propose_asks_the_first_instance")
+def _(right):
+    def can_propose(self, p):
+        own, self.instance[p] = self.instance[p], self.instance[0]
+        answer = right(self, p)
+        self.instance[p] = own
+        return answer
+
+    return can_propose
+
+
+@reading("a card can take where card 0 can", r.Carrier, "can_take", "total_order/can_take_asks_the_first_card")
+def _(right):
+    return lambda self, p: right(self, 0)
+
+
+@reading("each card has come to card 0's instance", r.Carrier, "instance_of", "total_order/instance_of_the_first_card")
+def _(right):
+    return lambda self, p: right(self, 0)
+
+
+@reading("each card's log is card 0's", r.Carrier, "log_of", "total_order/log_of_the_first_card")
+def _(right):
+    return lambda self, p: right(self, 0)
+
+
+@reading("a sixth card does not count", r.Broadcast, "card_count", "total_order/card_count_without_the_sixth")
+def _(right):
+    return lambda self: min(right(self), 5)
+
+
+@reading("every proposal is for the first instance", r.Consensus, "propose", "total_order/propose_in_the_first_instance")
+def _(right):
+    return lambda self, k, p, notes: right(self, 0, p, notes)
+
+
+@reading("the consensus's wire counts as empty", r.Consensus, "wire_len", "total_order/wire_of_the_broadcast_alone")
+def _(right):
+    return lambda self: 0
 
 
 # What the parts share.
@@ -411,7 +502,14 @@ def _(right):
     return lambda self, i: right(self, 0)
 
 
-@reading("a carry is of item 0, whatever its number", r.Part, "carry", "allack/carries-the-first", "relay/carries-the-first")
+@reading(
+    "a carry is of item 0, whatever its number",
+    r.Part,
+    "carry",
+    "allack/carries-the-first",
+    "relay/carries-the-first",
+    "total_order/carry_of_another_item",
+)
 def _(right):
     return lambda self, i: right(self, 0)
 
@@ -542,7 +640,12 @@ def _(right):
     return lambda self, p: right(self, 0)
 
 
-@reading("the consensus says of each card what it knows of card 0, whether it has crashed", r.Consensus, "has_crashed", "register/crash-read-of-another-card")
+@reading(
+    "the consensus says of each card what it knows of card 0, whether it has crashed",
+    r.Consensus,
+    "has_crashed",
+    "register/crash-read-of-another-card",
+)
 def _(right):
     return lambda self, p: right(self, 0)
 
@@ -624,7 +727,13 @@ def _(right):
     return propose
 
 
-@reading("what is decided is found by card and then by instance", r.Consensus, "decision_of", "tables/ballot-read-backwards", "tables/ballot-written-backwards")
+@reading(
+    "what is decided is found by card and then by instance",
+    r.Consensus,
+    "decision_of",
+    "tables/ballot-read-backwards",
+    "tables/ballot-written-backwards",
+)
 def _(right):
     return lambda self, k, p: right(self, p, k)
 
@@ -1219,12 +1328,16 @@ def misread(owner, name, make):
             delattr(owner, name)
 
 
+MOST_STEPS = 32 * (30 + 6 * (30 + 2))
+
+
 def patient(right):
-    """A settle that goes by a wrong reading may try what is refused, and would try it again: nothing changes."""
+    """A settle that goes by a wrong reading may try what is refused, and would try it again: nothing changes. Or it may go on for ever: more
+    than the most steps that the bound allows any run need not be seen."""
 
     def settle(self, limit):
         try:
-            right(self, limit)
+            right(self, min(limit, MOST_STEPS + 1))
         except r.Refused:
             pass
 
@@ -1251,20 +1364,20 @@ def collection():
                     yield shelf + "/" + name[: -len(".schedule")], file.read(), told.read()
 
 
-def edits_of_the_parts():
-    for part in PARTS:
+def edits_there():
+    for crate in CRATES_WITH_EDITS:
         for folder in ("must-fail", "edits"):
-            path = os.path.join(CRATES, part, folder)
+            path = os.path.join(CRATES, crate, folder)
             if os.path.isdir(path):
                 for name in sorted(os.listdir(path)):
                     if name.endswith(".edit"):
-                        yield part + "/" + name[: -len(".edit")]
+                        yield crate + "/" + name[: -len(".edit")]
 
 
 def edits_amiss():
     """The edits that are not named exactly once, and the names that are no edit's."""
     named = [edit for _, _, _, _, edits in READINGS for edit in edits] + [edit for edits in UNTOLD.values() for edit in edits]
-    there = set(edits_of_the_parts())
+    there = set(edits_there())
     for edit in sorted(there | set(named)):
         if edit not in there:
             yield "no such edit: " + edit

@@ -314,18 +314,24 @@ class Carrier:
         self.b.suspect(q, p)
         self.c.suspect(q, p)
 
+    def log_of(self, p):
+        return self.log[p]
+
+    def instance_of(self, p):
+        return self.instance[p]
+
     def waiting(self, p):
         return self.b.handed(p) - set(self.log[p])
 
     def propose(self, p):
         self.need_card(p)
-        self.c.propose(self.instance[p], p, self.waiting(p))
+        self.c.propose(self.instance_of(p), p, self.waiting(p))
         self.steps += 1
 
     def take(self, p):
         self.need_card(p)
         self.need_up(p)
-        batch = self.c.decision_of(self.instance[p], p)
+        batch = self.c.decision_of(self.instance_of(p), p)
         if batch is None:
             raise Refused(10)
         self.log[p] += sorted(batch, key=lambda m: self.ranking[m])
@@ -333,10 +339,10 @@ class Carrier:
         self.steps += 1
 
     def can_take(self, p):
-        return not self.b.has_crashed(p) and self.c.decision_of(self.instance[p], p) is not None
+        return not self.b.has_crashed(p) and self.c.decision_of(self.instance_of(p), p) is not None
 
     def can_propose(self, p):
-        k = self.instance[p]
+        k = self.instance_of(p)
         return not self.c.has_crashed(p) and self.c.proposal_of(k, p) is None and k < 32 and bool(self.waiting(p))
 
     def first_that(self, able):
@@ -475,7 +481,7 @@ def report(data):
         except Refused as refused:
             out.append("no %d %d" % (i, refused.number))
     for p in range(c.b.card_count()):
-        out.append(" ".join(["log", str(p), "down" if c.b.has_crashed(p) else "up"] + [str(m) for m in c.log[p]]))
+        out.append(" ".join(["log", str(p), "down" if c.b.has_crashed(p) else "up"] + [str(m) for m in c.log_of(p)]))
     out.append("steps %d %s" % (c.steps, "rest" if c.at_rest() else "more"))
     return "".join(line + "\n" for line in out)
 
