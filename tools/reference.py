@@ -39,14 +39,17 @@ class Part:
     def carry(self, i):
         if i >= len(self.wire):
             raise Refused(6)
-        self.receive(*self.wire.pop(i))
+        self.receive(*self.take(i))
 
     def lose(self, i):
         if i >= len(self.wire):
             raise Refused(6)
         if self.wire[i][0] not in self.down:
             raise Refused(7)
-        self.wire.pop(i)
+        self.take(i)
+
+    def take(self, i):
+        return self.wire.pop(i)
 
     def crash(self, p):
         self.need_card(p)
@@ -68,12 +71,21 @@ class Part:
     def unsuspected(self, q):
         return {c for c in range(self.n) if (q, c) not in self.doubts}
 
+    def card_count(self):
+        return self.n
+
+    def has_crashed(self, p):
+        return p in self.down
+
+    def wire_len(self):
+        return len(self.wire)
+
 
 class Broadcast(Part):
     def __init__(self, n):
         super().__init__(n)
         self.poster = {}
-        self.sets = [set() for _ in range(n)]
+        self.sets = [set() for _ in range(6)]
         self.order = []
 
     def post(self, p, m):
@@ -166,6 +178,12 @@ class Consensus(Part):
         self.proposal = {}
         self.decision = {}
 
+    def proposal_of(self, k, p):
+        return self.proposal.get((k, p))
+
+    def decision_of(self, k, p):
+        return self.decision.get((k, p))
+
     def propose(self, k, p, notes):
         self.need_card(p)
         self.need_up(p)
@@ -255,17 +273,24 @@ class Carrier:
     def __init__(self, n, ranking, broadcast, consensus):
         if not 1 <= n <= 6 or len(ranking) > 32:
             n = 0
-        self.n = n
         self.ranking = ranking
         self.b = broadcast(n)
         self.c = consensus(n)
-        self.log = [[] for _ in range(n)]
-        self.instance = [0] * n
+        self.log = [[] for _ in range(6)]
+        self.instance = [0] * 6
         self.steps = 0
 
+    def need_card(self, p):
+        if p >= self.b.card_count():
+            raise Refused(1)
+
+    def need_up(self, p):
+        if self.b.has_crashed(p):
+            raise Refused(2)
+
     def post(self, p, m):
-        self.b.need_card(p)
-        self.b.need_up(p)
+        self.need_card(p)
+        self.need_up(p)
         if m >= len(self.ranking):
             raise Refused(3)
         self.b.post(p, m)
@@ -289,62 +314,64 @@ class Carrier:
         self.b.suspect(q, p)
         self.c.suspect(q, p)
 
+    def log_of(self, p):
+        return self.log[p]
+
+    def instance_of(self, p):
+        return self.instance[p]
+
     def waiting(self, p):
         return self.b.handed(p) - set(self.log[p])
 
     def propose(self, p):
-        self.b.need_card(p)
-        self.b.need_up(p)
-        self.c.propose(self.instance[p], p, self.waiting(p))
+        self.need_card(p)
+        self.c.propose(self.instance_of(p), p, self.waiting(p))
         self.steps += 1
 
     def take(self, p):
-        self.b.need_card(p)
-        self.b.need_up(p)
-        if (self.instance[p], p) not in self.c.decision:
+        self.need_card(p)
+        self.need_up(p)
+        batch = self.c.decision_of(self.instance_of(p), p)
+        if batch is None:
             raise Refused(10)
-        batch = self.c.decision[self.instance[p], p]
         self.log[p] += sorted(batch, key=lambda m: self.ranking[m])
         self.instance[p] += 1
         self.steps += 1
 
-    def first_that(self, able):
-        return next((p for p in range(self.n) if p not in self.b.down and able(p)), None)
+    def can_take(self, p):
+        return not self.b.has_crashed(p) and self.c.decision_of(self.instance_of(p), p) is not None
 
-    def step(self):
-        """The first possible step of a settle; whether there was one."""
-        if self.b.wire:
-            self.carry("b", 0)
-            return True
-        if self.c.wire:
-            self.carry("c", 0)
-            return True
-        taker = self.first_that(lambda p: (self.instance[p], p) in self.c.decision)
+    def can_propose(self, p):
+        k = self.instance_of(p)
+        return not self.c.has_crashed(p) and self.c.proposal_of(k, p) is None and k < 32 and bool(self.waiting(p))
+
+    def first_that(self, able):
+        return next((p for p in range(self.b.card_count()) if able(p)), None)
+
+    def first_step(self):
+        """The first possible step of a settle, if there is one."""
+        if self.b.wire_len():
+            return self.carry, ("b", 0)
+        if self.c.wire_len():
+            return self.carry, ("c", 0)
+        taker = self.first_that(self.can_take)
         if taker is not None:
-            self.take(taker)
-            return True
-        proposer = self.first_that(lambda p: self.waiting(p) and (self.instance[p], p) not in self.c.proposal and self.instance[p] < 32)
+            return self.take, (taker,)
+        proposer = self.first_that(self.can_propose)
         if proposer is not None:
-            self.propose(proposer)
-            return True
-        return False
+            return self.propose, (proposer,)
+        return None
 
     def at_rest(self):
-        if self.b.wire or self.c.wire:
-            return False
-        for p in range(self.n):
-            if p in self.b.down:
-                continue
-            if (self.instance[p], p) in self.c.decision:
-                return False
-            if self.waiting(p) and (self.instance[p], p) not in self.c.proposal and self.instance[p] < 32:
-                return False
-        return True
+        return self.first_step() is None
 
     def settle(self, limit):
-        made = 0
-        while made < limit and self.step():
-            made += 1
+        for _ in range(limit):
+            step = self.first_step()
+            if step is None:
+                return
+            make, values = step
+            make(*values)
 
 
 class Bad(Exception):
@@ -453,8 +480,8 @@ def report(data):
             does[letter](*values)
         except Refused as refused:
             out.append("no %d %d" % (i, refused.number))
-    for p in range(n):
-        out.append(" ".join(["log", str(p), "down" if p in c.b.down else "up"] + [str(m) for m in c.log[p]]))
+    for p in range(c.b.card_count()):
+        out.append(" ".join(["log", str(p), "down" if c.b.has_crashed(p) else "up"] + [str(m) for m in c.log_of(p)]))
     out.append("steps %d %s" % (c.steps, "rest" if c.at_rest() else "more"))
     return "".join(line + "\n" for line in out)
 

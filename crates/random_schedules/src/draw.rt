@@ -85,7 +85,7 @@ fn draw_events(
 }
 
 // Few blocks and counts, so that many notes are equal. A `for`, as each turn asks for memory.
-fn push_notes(
+fn push_wear_notes(
     heap: Global,
     file: &mut String,
     random: &mut Random,
@@ -95,6 +95,27 @@ fn push_notes(
         let block = random.one_of(&[0, 1, 2, 4294967295]);
         let erases = random.one_of(&[0, 1, 5, 4294967295]);
         file.push_str(&format!(in heap; "{block} {erases}\n")?)?;
+    }
+    Ok(())
+}
+
+// The lowest and the highest that a label may have, and two between.
+fn draw_character(random: &mut Random) -> char {
+    match random.below(4) {
+        0 => ' ',
+        1 => 'A',
+        2 => 'B',
+        _ => '~',
+    }
+}
+
+// Few characters, and at most three of them, so that many labels are equal and many begin others. Each turn asks for memory.
+fn push_labels(file: &mut String, random: &mut Random, notes: u32) -> Result<(), AllocError> {
+    for _ in 0..notes {
+        for _ in 0..=random.below(3) {
+            file.push(draw_character(random))?;
+        }
+        file.push('\n')?;
     }
     Ok(())
 }
@@ -112,10 +133,16 @@ pub(crate) fn draw(heap: Global, random: &mut Random, pile: Pile) -> Result<Draw
     let events = draw_events(heap, random, cards, notes)?;
     let words = pile.words;
     let count = events.len();
+    let labels = random.below(2) == 0;
+    let kind = if labels { "label" } else { "wear" };
     let mut file = format!(in heap;
-        "kind wear\ncards {cards}\npile {words}\nnotes {notes}\nevents {count}\n"
+        "kind {kind}\ncards {cards}\npile {words}\nnotes {notes}\nevents {count}\n"
     )?;
-    push_notes(heap, &mut file, random, notes)?;
+    if labels {
+        push_labels(&mut file, random, notes)?;
+    } else {
+        push_wear_notes(heap, &mut file, random, notes)?;
+    }
     push_events(heap, &mut file, &events)?;
     Ok(Drawn {
         cards,

@@ -9,6 +9,7 @@ mod outcome;
 mod pile;
 mod random;
 
+use anyhow::ensure;
 use draw::{Drawn, draw};
 use law::{Verdict, judge};
 use outcome::read_report;
@@ -32,8 +33,8 @@ fn verdict_on(rt: &HostRuntime, drawn: &Drawn, pile: Pile) -> anyhow::Result<Ver
     Ok(verdict)
 }
 
-// Draws and judges the schedules of one pile. A `for`, as each turn may fail.
-fn try_pile(rt: &HostRuntime, random: &mut Random, pile: Pile) -> anyhow::Result<()> {
+// Draws and judges the schedules of one pile, and counts those of which the law does not hold. A `for`, as each turn may fail.
+fn try_pile(rt: &HostRuntime, random: &mut Random, pile: Pile) -> anyhow::Result<u32> {
     let mut settled = 0u32;
     let mut amiss = 0u32;
     for _ in 0..ROUNDS {
@@ -44,14 +45,16 @@ fn try_pile(rt: &HostRuntime, random: &mut Random, pile: Pile) -> anyhow::Result
     }
     let words = pile.words;
     println!(rt; "{words}: {settled} of {ROUNDS} at rest under full suspicion, {amiss} amiss")?;
-    Ok(())
+    Ok(amiss)
 }
 
 fn run(rt: &HostRuntime) -> anyhow::Result<()> {
     let mut random = Random::new(1);
+    let mut amiss = 0u32;
     for pile in piles().iter() {
-        try_pile(rt, &mut random, *pile)?;
+        amiss = amiss.saturating_add(try_pile(rt, &mut random, *pile)?);
     }
+    ensure!(amiss == 0, "the law does not hold of every report");
     Ok(())
 }
 

@@ -1,10 +1,14 @@
 -- Whole files and their reports, byte by byte.
-use Rattle.std.specs.Prelude.{◌≡◌, ℕ, List, [], ◌∷◌, codes}
+use Rattle.std.specs.Prelude.{◌≡◌, ℕ, List, [], ◌∷◌, map, codes}
+use Rattle.std.specs.List.{range_with_len}
+use Rattle.notes.specs.declared.wear.Wear.{Wear}
+use Rattle.notes.specs.contracts.wear.WearKind.TheImpl.{ghosts as wears}
 use Rattle.board.specs.contracts.state.broadcast.BoardBroadcast.TheImpl.{ghosts as board}
 use Rattle.register.specs.contracts.state.consensus.RegisterConsensus.TheImpl.{ghosts as register}
 use Rattle.total_order.specs.declared.call.Call.TheVariants.{Post}
-use Rattle.total_order.specs.Carrying.{cards_of}
-use Rattle.run_report.specs.Reports.{report_over}
+use Rattle.total_order.specs.Carrying.{Carrying, card_count}
+use Rattle.runs.specs.Scripts.{new_carrier}
+use Rattle.run_report.specs.Reports.{text_from}
 use Rattle.report.specs.Reports.{report_of}
 
 -- Two cards over the board and the register, with two wear notes. Card 0 proposes note 0 before note 1 has come, so note 1 goes into a later
@@ -56,14 +60,26 @@ SixCards32Notes =
     report_of (codes "kind wear\ncards 6\npile board register\nnotes 32\nevents 3\n0 0\n0 1\n0 2\n0 3\n0 4\n0 5\n0 6\n0 7\n0 8\n0 9\n0 10\n0 11\n0 12\n0 13\n0 14\n0 15\n0 16\n0 17\n0 18\n0 19\n0 20\n0 21\n0 22\n0 23\n0 24\n0 25\n0 26\n0 27\n0 28\n0 29\n0 30\n0 31\nb 5 31\nc b 5\np 5\n")
     ≡ codes "log 0 up\nlog 1 up\nlog 2 up\nlog 3 up\nlog 4 up\nlog 5 up\nsteps 2 more\n"
 
--- The report of a post by card 0 where so many cards and so many notes are asked for.
-abbrev pub one_post : ℕ → ℕ → List ℕ
-one_post cards notes = report_over board register (cards_of cards notes) [] (Post 0 0 ∷ [])
+-- A book of so many wear notes, and the new carrier that is asked for with it.
+abbrev pub book_of : ℕ → List Wear
+book_of notes = map (λ erases. record { block = 0; erases = erases }) (range_with_len 0 notes)
 
--- Seven cards, or 33 notes, make a carrier without cards: it refuses the post, as nobody is there to make it, and is at rest.
+abbrev pub carrier_of : ℕ → ℕ → Carrying board register
+carrier_of cards notes = new_carrier board register wears.precedes cards (book_of notes)
+
+-- The report of a post by card 0 on it.
+abbrev pub one_post : ℕ → ℕ → List ℕ
+one_post cards notes = text_from board register (carrier_of cards notes) (Post 0 0 ∷ [])
+
+-- Six cards and 32 notes are the most that a carrier takes. Seven cards, or 33 notes, make one without cards: it refuses the post, as nobody is
+-- there to make it, and is at rest.
 pub record BeyondTheCarrier : Type 0 where
+  pub most : one_post 6 32 ≡ codes "log 0 up\nlog 1 up\nlog 2 up\nlog 3 up\nlog 4 up\nlog 5 up\nsteps 0 more\n"
+  pub all_six_cards : card_count board register (carrier_of 6 32) ≡ 6
   pub seven_cards : one_post 7 32 ≡ codes "no 0 1\nsteps 0 rest\n"
+  pub no_card_of_seven : card_count board register (carrier_of 7 32) ≡ 0
   pub many_notes : one_post 6 33 ≡ codes "no 0 1\nsteps 0 rest\n"
+  pub no_card_for_many_notes : card_count board register (carrier_of 6 33) ≡ 0
 
 -- In a file, nine cards are a fault already, in the line that starts at byte 10.
 abbrev pub TooManyCards : Type 0

@@ -3,7 +3,7 @@
 
 ghost use Rattle.std.specs.Prelude.{◌≡◌, IfOk, codes};
 ghost use Rattle.order.specs.Words.{step_bound};
-ghost use Rattle.worked.specs.Examples.{board, register, LateNote, OneBatch};
+ghost use Rattle.worked.specs.Examples.{board, register, LateNote, OneBatch, WithinTheBound};
 ghost use Rattle.worked.specs.Files.{WorkedFiles};
 ghost use Rattle.worked.specs.Shelves.{OneOfEachShelf};
 
@@ -26,6 +26,7 @@ pub fn steps_allowed() -> u64
     ensures bound { result ≡ step_bound 2 2 board.bound register.bound }
     ensures late_note { LateNote }
     ensures one_batch { OneBatch }
+    ensures within_the_bound { WithinTheBound }
     ensures files { WorkedFiles }
     ensures shelves { OneOfEachShelf }
 {
@@ -39,6 +40,7 @@ pub fn steps_allowed() -> u64
 fn examples_come_out()
     ensures late_note { LateNote }
     ensures one_batch { OneBatch }
+    ensures within_the_bound { WithinTheBound }
 {}
 
 fn files_come_out()

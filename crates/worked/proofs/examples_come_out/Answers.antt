@@ -1,4 +1,4 @@
-use Rattle.std.proofs.Common.{refl}
+use Rattle.std.proofs.Common.{refl, lit≤}
 use lib.Count.{ones, ones_in}
 use Rattle.notes.specs.Sets.{has}
 use Rattle.notes.specs.Places.{place}
@@ -10,4 +10,4 @@ use Rattle.worked.proofs.examples_come_out.Goals as goal
 
 pub returns : goal.returns
 unfolding ones ones_in has place in_ranking_order waiting taker proposer at_rest advanced settled settle_steps calling left_by answers_to
-returns c = record { late_note = refl; one_batch = refl }
+returns c = record { late_note = refl; one_batch = refl; within_the_bound = record { allowed = refl; late_note = lit≤ _; one_batch = lit≤ _ } }

@@ -12,4 +12,4 @@ use Rattle.worked.proofs.files_come_out.Goals as goal
 
 pub returns : goal.returns
 unfolding digits ones ones_in count_trailing_zeros has place in_ranking_order waiting taker proposer at_rest advanced settled settle_steps calling left_by answers_to steps_on through_on
-returns c = record { late_note = refl; one_batch = refl; one_card = refl; not_uniform = refl; not_handed_yet = refl; suspicions = refl; board_keeps_its_items = refl; six_cards_32_notes = refl; beyond_the_carrier = record { seven_cards = refl; many_notes = refl }; too_many_cards = refl }
+returns c = record { late_note = refl; one_batch = refl; one_card = refl; not_uniform = refl; not_handed_yet = refl; suspicions = refl; board_keeps_its_items = refl; six_cards_32_notes = refl; beyond_the_carrier = record { most = refl; all_six_cards = refl; seven_cards = refl; no_card_of_seven = refl; many_notes = refl; no_card_for_many_notes = refl }; too_many_cards = refl }
