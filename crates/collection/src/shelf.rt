@@ -37,10 +37,11 @@ impl fmt::Display for Tally {
 
 // The names in a folder, sorted.
 pub(crate) fn names_in(rt: &HostRuntime, folder: &str) -> io::Result<Vec<String>> {
-    let mut names = Vec::new(rt.alloc());
-    for entry in fs::read_dir(rt, folder)? {
-        names.push(String::from_str(rt.alloc(), entry?.file_name())?)?;
-    }
+    let mut names: Vec<String> = fs::read_dir(rt, folder)?
+        .map(|entry| -> io::Result<String> {
+            Ok(String::from_str(rt.alloc(), entry?.file_name())?)
+        })
+        .try_collect(rt.alloc())?;
     names.sort()?;
     Ok(names)
 }

@@ -83,7 +83,7 @@ impl FileFault {
 }
 
 impl Layer {
-    // The word of the output; a caller may want it alone, so it is no `Display`.
+    // The word of the output, as bytes that need no place to be written to.
     pub fn name(self) -> &'static str
         ensures { result.now ≡ layer_word self }
     {

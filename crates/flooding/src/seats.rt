@@ -1,5 +1,6 @@
 use notes::set::NoteSet;
 use std::marker::Model;
+use tables::grid::Grid;
 
 pub mod methods;
 
@@ -11,7 +12,7 @@ pub struct Place {
 }
 
 // Where a card stands in an instance: its round, 0 before it proposes; whom it has counted in that round; and whose proposals it knows.
-// A set of cards is held like a set of notes.
+// A set of cards is held like a set of notes. The round is no Option: an item that comes early is told by comparing rounds, proposed or not.
 #[derive(Clone, Copy, Drop)]
 pub struct Seat {
     pub round: usize,
@@ -22,7 +23,7 @@ pub struct Seat {
 // The seat of each card in each instance.
 #[derive(Drop)]
 pub struct Seats {
-    rows: [[Seat; 6]; 32],
+    rows: Grid<Seat>,
 }
 
 impl Model for Seats {

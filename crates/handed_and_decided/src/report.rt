@@ -3,7 +3,7 @@ use parts::broadcast::Broadcast;
 use parts::consensus::Consensus;
 use std::{fmt, io};
 
-// The word of a yes or no, which has no `Display` of its own to write.
+// A yes or no prints as true or false, so its word is chosen here.
 fn state(crashed: bool) -> &'static str {
     if crashed { "down" } else { "up" }
 }

@@ -7,6 +7,8 @@ ghost use Rattle.std.specs.List.{list_all};
 ghost use Rattle.labels.specs.Order.{is_label, printable, label_before};
 ghost use Rattle.labels.specs.Order.{label_of};
 
+use std::fmt;
+
 // One to eight bytes of 32 to 126, and their place in the caller's text. Only `new` makes one.
 // No `impl Model`: what is `Copy` and borrows cannot have one yet.
 #[derive(Clone, Copy, Debug)]
@@ -54,4 +56,14 @@ fn all_printable(bytes: &[u8]) -> bool
     ensures { result ≡ list_all printable bytes.now }
 {
     bytes.iter().all(|byte| (32..=126).contains(byte))
+}
+
+// The bytes as text.
+impl fmt::Display for Label<'_> {
+    ghost output = { λ l. Some (label_of l).0 };
+
+    fn fmt<W: fmt::Write>(&self, f: &mut fmt::Formatter<W>) -> fmt::Result {
+        let text = std::str::from_utf8(self.text).map_err(|_| fmt::Error)?;
+        f.write_str(text)
+    }
 }

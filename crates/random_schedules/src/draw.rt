@@ -28,6 +28,7 @@ fn draw_number(random: &mut Random, count: u32, beyond: u32) -> u32 {
     }
 }
 
+// Each range of lots makes another event.
 fn draw_event(random: &mut Random, cards: u32, notes: u32) -> Event {
     let lot = random.below(100);
     let card = draw_number(random, cards, 8);

@@ -24,11 +24,10 @@ fn number_in(field: Option<&str>) -> anyhow::Result<u32> {
 }
 
 fn notes_in(heap: Global, fields: &str) -> anyhow::Result<Vec<u32>> {
-    let mut notes = Vec::new(heap);
-    for field in fields.split_whitespace() {
-        notes.push(field.parse::<u32>()?)?;
-    }
-    Ok(notes)
+    fields
+        .split_whitespace()
+        .map(|field| -> anyhow::Result<u32> { Ok(field.parse::<u32>()?) })
+        .try_collect(heap)
 }
 
 impl Outcome {

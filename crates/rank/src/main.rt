@@ -9,6 +9,7 @@ use reader::file::{Notes, Schedule, Unread};
 use reader::read::read;
 use std::io::Read;
 
+// Each arm prints notes of another type.
 fn print_notes(rt: &HostRuntime, notes: Notes<'_>) -> anyhow::Result<()> {
     match notes {
         Notes::Wears(wears) => print_ranked(rt, &wears),

@@ -64,7 +64,7 @@ fn report_schedule(heap: Global, schedule: Schedule<'_>) -> Result<String, Alloc
     report_notes(heap, contents.pile, cards, notes, calls)
 }
 
-// The notes rank as their kind has it: labels by their bytes, wherever they stand in the file.
+// The notes rank as their kind has it: labels by their bytes, wherever they stand in the file. Each arm has another type of book.
 #[tactic(auto, using(crate::proofs::Ranks::as_many_labels, crate::proofs::Ranks::labels_rank_by_bytes))]
 fn report_notes(
     heap: Global,

@@ -16,7 +16,8 @@ use runs::Script;
 use schedule::contents::{BroadcastPart, ConsensusPart, Pile};
 use std::alloc::{AllocError, Global};
 
-// The broadcast that the pile names, under the in-turn layer or alone, with this consensus. Each arm runs another type, whose law its own bound proves.
+// The broadcast that the pile names, under the in-turn layer or alone, with this consensus. Each arm runs another type. Over a uniform one
+// the program makes the run whose contract has the law of crashed logs too.
 fn report_with<K: Kind, C: Consensus + Drop>(
     heap: Global,
     pile: Pile,
@@ -34,7 +35,7 @@ fn report_with<K: Kind, C: Consensus + Drop>(
     }
 }
 
-// The report of these calls over the stack that the pile names.
+// The report of these calls over the stack that the pile names. Each arm runs another type.
 pub(crate) fn report_on<K: Kind>(
     heap: Global,
     pile: Pile,

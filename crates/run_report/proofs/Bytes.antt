@@ -46,7 +46,3 @@ one_more start was now lines more x e f g =
     ∙ append_assoc start (lines_text lines) (lines_text (x ∷ []))
     ∙ ap (λ z. start ++ z) (sym (lines_append lines (x ∷ [])))
     ∙ ap (λ z. start ++ lines_text z) (sym g)
-
--- A turn of a loop that writes: what was written, a piece, and what is still to come.
-pub onto : (was now piece rest all : List ℕ) → now ≡ was ++ piece → was ++ (piece ++ rest) ≡ all → now ++ rest ≡ all
-onto was now piece rest all e h = ap (λ z. z ++ rest) e ∙ append_assoc was piece rest ∙ h

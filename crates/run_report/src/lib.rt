@@ -30,7 +30,7 @@ pub fn report_over<K: Kind, B: Broadcast + Drop, C: Consensus + Drop>(
     report_of(heap, &end.carrier, end.answers.as_slice())
 }
 
-// The same over a uniform broadcast, by the run that promises more of it, and which another broadcast does not have.
+// The same over a uniform broadcast, by the run whose contract has the law of crashed logs too: that law stands on a call that the program makes.
 pub fn report_over_uniform<K: Kind, B: Uniform + Drop, C: Consensus + Drop>(
     heap: Global,
     script: &Script<'_, K>,

@@ -45,7 +45,7 @@ pub(crate) fn write_log(
     Ok(())
 }
 
-// The word of a yes or no, which has no `Display` of its own to write.
+// A yes or no prints as true or false, so the word of a report is chosen here.
 fn card_word(crashed: bool) -> &'static str
     ensures { result.now ≡ card_word crashed }
 {

@@ -73,7 +73,7 @@ pub fn run_uniform<K: Kind, B: Uniform + Drop, C: Consensus + Drop>(
     Ok(UniformEnd { run, quiet })
 }
 
-// Makes the calls, one after the other, and keeps what each answered.
+// Makes the calls, one after the other, and keeps what each answered. A `for`, since a proof does not know what `collect` leaves of the carrier that its closure would borrow.
 fn make_calls<B: Broadcast, C: Consensus>(
     carrier: &mut Carrier<B, C>,
     calls: &[Call],

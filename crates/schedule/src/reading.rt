@@ -16,6 +16,7 @@ use text::fault::LineFault;
 use text::field::{Field, Fields};
 use text::part::Part;
 
+// The words of the contents. No `TryFrom`: whoever reads a line asks for an Option, and an error would be dropped at once.
 #[tactic(auto, using(crate::proofs::WordLaws::five_bytes))]
 fn kind(word: Field) -> Option<NoteKind>
     ensures { result ≡ kind_in (field_of word.entry) }

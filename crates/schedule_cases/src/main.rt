@@ -37,6 +37,7 @@ fn report_schedule(rt: &HostRuntime, name: &str, schedule: Schedule) -> io::Resu
         return Ok(());
     }
     println!(rt; "  {contents:?}")?;
+    // Each arm prints notes of another type.
     match notes {
         Notes::Wears(wears) => println!(rt; "  {wears:?}")?,
         Notes::Labels(labels) => println!(rt; "  {labels:?}")?,

@@ -1,5 +1,5 @@
 -- A table of six cards in each of 32 instances: what is read after a write, and its shape.
-use Rattle.std.proofs.Common.{◌≡◌, ℕ, zero, suc, ◌<◌, true, cond, ◌&&◌, ◌==◌, List, [], ◌∷◌, length, replicate, slice_index_or, slice_set, is_some, Option, None, refl, sym, ap, ◌∙◌, ⊎_elim, arith, length-set}
+use Rattle.std.proofs.Common.{◌≡◌, ℕ, ◌<◌, true, cond, ◌&&◌, ◌==◌, List, [], replicate, slice_index_or, slice_set, is_some, Option, None, refl, sym, ap, ◌∙◌, ⊎_elim, arith, length-set}
 use borrow.Author.Tests.{clash}
 use Rattle.std.proofs.lemmas.List.{get_or_past}
 use Rattle.std.proofs.lemmas.Bool.{cases_lt}
@@ -19,10 +19,3 @@ place_written t k q j p v d g hk hq = row_written t k q j p v d (omega (arith, g
 -- An instance in which something stands is one of the 32.
 pub instance_below : (t : List (List (Option ℕ))) (k p : ℕ) → Shaped t → is_some (ballot_in t k p) ≡ true → k < 32
 instance_below t k p g h = ⊎_elim (λ l. l) (λ l. absurd (clash (sym (ap (λ r. is_some (slice_index_or {A = Option ℕ} r p None)) (get_or_past t k [] (omega (arith, g.instances)))) ∙ h))) (cases_lt k 32)
-
--- A list in which each place holds the same.
-pub all_same : {X : Type 0} (n : ℕ) (xs : List X) (v : X) → length xs ≡ n → ((i : ℕ) (d : X) → i < n → slice_index_or xs i d ≡ v) → xs ≡ replicate n v
-all_same zero [] v l f = refl
-all_same zero (x ∷ xs) v l f = absurd (omega arith)
-all_same (suc n) [] v l f = absurd (omega arith)
-all_same (suc n) (x ∷ xs) v l f = rw (f 0 x (omega arith)) (ap (λ ys. v ∷ ys) (all_same n xs v (omega arith) (λ i d h. f (suc i) d (omega arith))))

@@ -1,3 +1,4 @@
+use crate::grid::Grid;
 use notes::set::NoteSet;
 use std::marker::Model;
 
@@ -6,7 +7,7 @@ pub mod methods;
 // What each card has proposed, or decided, in each instance: a set of notes, or nothing yet.
 #[derive(Drop)]
 pub struct Ballots {
-    rows: [[Option<NoteSet>; 6]; 32],
+    rows: Grid<Option<NoteSet>>,
 }
 
 impl Model for Ballots {

@@ -18,7 +18,7 @@ pub enum Field<'a> {
     Word(Part<'a>),
 }
 
-// The fields of a line; no line of a schedule has more than four.
+// The fields of a line; no line of a schedule has more than four. An enum and no list: a line is told by how many it has.
 #[derive(Clone, Copy, Debug)]
 pub enum Fields<'a> {
     One(Field<'a>),

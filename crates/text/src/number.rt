@@ -10,7 +10,7 @@ fn with_digit(value: u32, byte: u8) -> Option<u32>
     value.checked_mul(10)?.checked_add(digit)
 }
 
-// The number that digits alone write, if it has up to 32 bits.
+// The number that digits alone write, if it has up to 32 bits. A `for`, whose invariant is a line; `try_fold` takes a page of lemmas.
 fn digits(text: &[u8]) -> Option<u32>
     ensures { result ≡ digits_after 0 text.now }
 {

@@ -11,6 +11,7 @@ struct Progress {
 }
 
 // There is room for six cards. Logs of cards that the carrier has not stay empty.
+// Contracts see a carrier by `model`: a Model's `Value` could not be made of the states of the two bounds.
 #[derive(Drop)]
 pub struct Carrier<B, C> {
     broadcast: B,

@@ -14,7 +14,7 @@ use std::alloc::{AllocError, Global};
 use std::collections::{VecDeque, vec_deque};
 use std::marker::Model;
 
-// An item under way: its sender, a card or 7 for the carrier; its destination, likewise; and what it brings.
+// An item under way: its sender, a card or 7 for the carrier; its destination, likewise; and what it brings. The interfaces say 7, so this does.
 #[derive(Clone, Copy, Drop)]
 pub struct Item<P> {
     pub from: usize,

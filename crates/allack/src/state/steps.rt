@@ -13,7 +13,7 @@ impl AllAck {
         self.handed.add_all(card, notes);
     }
 
-    // The notes of which the card has counted every card that it does not suspect.
+    // The notes of which the card has counted every card that it does not suspect. A `for`, whose invariant is a line; a fold takes an induction.
     #[tactic(auto, using(crate::specs::Completes::complete_next))]
     fn complete(&self, card: usize) -> NoteSet
         ensures { result ≡ complete self.now card self.now.spread.cards.count }

@@ -1,4 +1,4 @@
-ghost use Rattle.std.specs.Prelude.{◌≡◌, ◌+◌, ◌≤◌, replicate};
+ghost use Rattle.std.specs.Prelude.{◌≡◌};
 ghost use Rattle.flooding.specs.Mail.{telling};
 ghost use Rattle.flooding.specs.Seats.{no_seat, new_seats, seat_in, with_seat, entering, hearing, accounted_for, all_counted, ready};
 
@@ -6,6 +6,7 @@ use super::{Place, Seat, Seats};
 use crate::mail::Load;
 use cards::Cards;
 use notes::set::NoteSet;
+use tables::grid::Grid;
 use wire::Item;
 
 // The methods are told the cards, and which of them sits here: a seat lies in its table and knows neither.
@@ -70,24 +71,15 @@ impl Seats {
     pub(crate) fn new() -> Seats
         ensures { result ≡ new_seats }
     {
-        // A repeat of rows would want the row to be `Copy`, which an array of what has a `Model` is not yet.
         Seats {
-            rows: std::array::from_fn(
-                |_: usize| -> [Seat; 6]
-                    ensures { result ≡ replicate 6 no_seat }
-                { [Seat::vacant(); 6] },
-            ),
+            rows: Grid::filled(Seat::vacant()),
         }
     }
 
     pub(crate) fn of(&self, place: Place) -> Seat
         ensures { result ≡ seat_in self.now place.instance place.card }
     {
-        self.rows
-            .get(place.instance)
-            .and_then(|row| row.get(place.card))
-            .copied()
-            .unwrap_or_else(Seat::vacant)
+        self.rows.of(place.instance, place.card, Seat::vacant())
     }
 
     // What a card tells the others: its round, and what it knows.
@@ -102,16 +94,9 @@ impl Seats {
         }
     }
 
-    // By index, since what `get_mut` lends of an array says nothing of the array afterwards.
     pub(crate) fn put(&mut self, place: Place, seat: Seat)
         ensures { self.new ≡ with_seat self.old place.instance place.card seat }
     {
-        if self
-            .rows
-            .get(place.instance)
-            .is_some_and(|row| place.card < row.len())
-        {
-            self.rows[place.instance][place.card] = seat;
-        }
+        self.rows.put(place.instance, place.card, seat);
     }
 }

@@ -23,7 +23,7 @@ impl Table {
         }
     }
 
-    // The notes that count where those of the set are handed.
+    // The notes that count where those of the set are handed. A `for`, whose invariant is a line; a fold takes an induction.
     #[tactic(auto, using(crate::specs::Counts::counted_more))]
     pub(crate) fn in_turn(&self, handed: NoteSet) -> NoteSet
         ensures { result ≡ in_turn self.now handed }

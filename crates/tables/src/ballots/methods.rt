@@ -1,8 +1,9 @@
-ghost use Rattle.std.specs.Prelude.{◌≡◌, ◌+◌, replicate, is_ok, if◌then◌else◌, Some, None};
+ghost use Rattle.std.specs.Prelude.{◌≡◌, ◌+◌, is_ok, if◌then◌else◌, Some};
 ghost use Rattle.parts.specs.Refusals.{propose_answer};
 ghost use Rattle.tables.specs.Tables.{new_ballots, ballot_in, with_ballot, proposals_view, free_ballots};
 
 use super::Ballots;
+use crate::grid::Grid;
 use cards::Cards;
 use notes::set::NoteSet;
 use parts::refusal::Refusal;
@@ -11,31 +12,22 @@ impl Ballots {
     pub fn new() -> Ballots
         ensures { result ≡ new_ballots }
     {
-        // A repeat of rows would want the row to be `Copy`, which an array of what has a `Model` is not yet.
         Ballots {
-            rows: std::array::from_fn(
-                |_: usize| -> [Option<NoteSet>; 6]
-                    ensures { result ≡ replicate 6 None }
-                { [None; 6] },
-            ),
+            rows: Grid::filled(None),
         }
     }
 
     pub fn of(&self, instance: usize, card: usize) -> Option<NoteSet>
         ensures { result ≡ ballot_in self.now instance card }
     {
-        let row = self.rows.get(instance)?;
-        row.get(card).copied().flatten()
+        self.rows.of(instance, card, None)
     }
 
     // Writes down what the card has decided, or proposed.
     pub fn put(&mut self, instance: usize, card: usize, notes: Option<NoteSet>)
         ensures { self.new ≡ with_ballot self.old instance card notes }
     {
-        // By index: what an array's `get_mut` writes, a proof does not know.
-        if instance < 32 && card < 6 {
-            self.rows[instance][card] = notes;
-        }
+        self.rows.put(instance, card, notes);
     }
 
     // Writes down that the card proposes the notes in the instance, unless the proposal is refused.
@@ -57,7 +49,7 @@ impl Ballots {
         if instance >= 32 || notes.is_empty() {
             return Err(Refusal::NothingToPropose);
         }
-        self.rows[instance][card] = Some(notes);
+        self.rows.put(instance, card, Some(notes));
         Ok(())
     }
 }
