@@ -4,8 +4,10 @@
 // Sets are masks, of cards in 8 bits and of notes in 32. A note is known inside by its place in the ranking, so a batch in ranking order is
 // the ascending bits of its mask; numbers are turned into places at a post, and back where a log is printed.
 //
-// With a number as its argument it makes the report so many times and prints the last, so that a run is long enough to be timed.
+// With the argument `many` it is timed from within, as many.rt is: the first line of its input is `read`, `run` or `report` and a number, and
+// what follows, a schedule file, is read so often; or read once, and run so often; or reported so often.
 use std::collections::VecDeque;
+use std::hint::black_box;
 use std::io::{Read, Write};
 
 const INSTANCES: usize = 32;
@@ -515,9 +517,9 @@ struct Progress {
     instance: usize,
 }
 
-struct Carrier<'a, B, C> {
+struct Carrier<B, C> {
     cards: Cards,
-    ranking: &'a Ranking,
+    ranking: Ranking,
     posted: u32,
     broadcast: B,
     consensus: C,
@@ -525,11 +527,11 @@ struct Carrier<'a, B, C> {
     steps: usize,
 }
 
-impl<'a, B: Broadcast, C: Consensus> Carrier<'a, B, C> {
-    fn new(count: usize, ranking: &'a Ranking) -> Self {
+impl<B: Broadcast, C: Consensus> Carrier<B, C> {
+    fn new(count: usize, book: &[u64]) -> Self {
         Carrier {
             cards: Cards { count, all: (1 << count) - 1, down: 0, doubts: [0; 6] },
-            ranking,
+            ranking: rank(book),
             posted: 0,
             broadcast: B::new(),
             consensus: C::new(),
@@ -833,7 +835,8 @@ struct Pile {
 struct Schedule {
     cards: usize,
     pile: Pile,
-    ranking: Ranking,
+    notes: usize,
+    keys: [u64; 32],
     events: Vec<Event>,
 }
 
@@ -866,7 +869,7 @@ fn read(file: &[u8]) -> Result<Schedule, Bad> {
     if reader.at < file.len() {
         return Err(Bad(14, reader.at, "file"));
     }
-    Ok(Schedule { cards, pile, ranking: rank(&keys[..notes]), events })
+    Ok(Schedule { cards, pile, notes, keys, events })
 }
 
 fn write_number(out: &mut Vec<u8>, value: usize) {
@@ -884,43 +887,74 @@ fn write_number(out: &mut Vec<u8>, value: usize) {
     out.extend_from_slice(&digits[at..]);
 }
 
-fn run<B: Broadcast, C: Consensus>(schedule: &Schedule, out: &mut Vec<u8>) {
-    let mut carrier: Carrier<B, C> = Carrier::new(schedule.cards, &schedule.ranking);
+// Makes the events, one after the other, and tells of each that is refused.
+fn make_all<B: Broadcast, C: Consensus>(schedule: &Schedule, mut refused: impl FnMut(usize, u8)) -> Carrier<B, C> {
+    let mut carrier = Carrier::new(schedule.cards, &schedule.keys[..schedule.notes]);
     for (number, event) in schedule.events.iter().enumerate() {
         if let Err(refusal) = carrier.make(*event) {
+            refused(number, refusal);
+        }
+    }
+    carrier
+}
+
+// What is done over the stack that a file names.
+trait Over {
+    type Result;
+    fn over<B: Broadcast, C: Consensus>(self, schedule: &Schedule) -> Self::Result;
+}
+
+fn over_consensus<C: Consensus, O: Over>(schedule: &Schedule, what: O) -> O::Result {
+    match (schedule.pile.in_turn, schedule.pile.broadcast) {
+        (false, 'r') => what.over::<Relay, C>(schedule),
+        (false, 'a') => what.over::<AllAck, C>(schedule),
+        (false, _) => what.over::<Board, C>(schedule),
+        (true, 'r') => what.over::<InTurn<Relay>, C>(schedule),
+        (true, 'a') => what.over::<InTurn<AllAck>, C>(schedule),
+        (true, _) => what.over::<InTurn<Board>, C>(schedule),
+    }
+}
+
+fn over_stack<O: Over>(schedule: &Schedule, what: O) -> O::Result {
+    if schedule.pile.flood {
+        over_consensus::<Flood, O>(schedule, what)
+    } else {
+        over_consensus::<Register, O>(schedule, what)
+    }
+}
+
+struct Report<'a> {
+    out: &'a mut Vec<u8>,
+}
+
+impl Over for Report<'_> {
+    type Result = ();
+
+    fn over<B: Broadcast, C: Consensus>(self, schedule: &Schedule) {
+        let out = self.out;
+        let mut carrier: Carrier<B, C> = make_all(schedule, |number, refusal| {
             out.extend_from_slice(b"no ");
             write_number(out, number);
             out.push(b' ');
             write_number(out, refusal as usize);
             out.push(b'\n');
+        });
+        for card in 0..schedule.cards {
+            out.extend_from_slice(b"log ");
+            write_number(out, card);
+            let word: &[u8] = if carrier.cards.is_down(card) { b" down" } else { b" up" };
+            out.extend_from_slice(word);
+            let progress = &carrier.progress[card];
+            for note in &progress.log[..progress.len] {
+                out.push(b' ');
+                write_number(out, *note as usize);
+            }
+            out.push(b'\n');
         }
-    }
-    for card in 0..schedule.cards {
-        out.extend_from_slice(b"log ");
-        write_number(out, card);
-        let word: &[u8] = if carrier.cards.is_down(card) { b" down" } else { b" up" };
+        out.extend_from_slice(b"steps ");
+        write_number(out, carrier.steps);
+        let word: &[u8] = if carrier.at_rest() { b" rest\n" } else { b" more\n" };
         out.extend_from_slice(word);
-        let progress = &carrier.progress[card];
-        for note in &progress.log[..progress.len] {
-            out.push(b' ');
-            write_number(out, *note as usize);
-        }
-        out.push(b'\n');
-    }
-    out.extend_from_slice(b"steps ");
-    write_number(out, carrier.steps);
-    let word: &[u8] = if carrier.at_rest() { b" rest\n" } else { b" more\n" };
-    out.extend_from_slice(word);
-}
-
-fn run_over<C: Consensus>(schedule: &Schedule, out: &mut Vec<u8>) {
-    match (schedule.pile.in_turn, schedule.pile.broadcast) {
-        (false, 'r') => run::<Relay, C>(schedule, out),
-        (false, 'a') => run::<AllAck, C>(schedule, out),
-        (false, _) => run::<Board, C>(schedule, out),
-        (true, 'r') => run::<InTurn<Relay>, C>(schedule, out),
-        (true, 'a') => run::<InTurn<AllAck>, C>(schedule, out),
-        (true, _) => run::<InTurn<Board>, C>(schedule, out),
     }
 }
 
@@ -936,19 +970,49 @@ fn report(file: &[u8]) -> Vec<u8> {
             out.extend_from_slice(layer.as_bytes());
             out.push(b'\n');
         }
-        Ok(schedule) if schedule.pile.flood => run_over::<Flood>(&schedule, &mut out),
-        Ok(schedule) => run_over::<Register>(&schedule, &mut out),
+        Ok(schedule) => over_stack(&schedule, Report { out: &mut out }),
     }
     out
 }
 
-fn main() -> std::io::Result<()> {
-    let times = std::env::args().nth(1).map_or(1, |times| times.parse().expect("a number of times"));
-    let mut file = Vec::new();
-    std::io::stdin().lock().read_to_end(&mut file)?;
-    let mut out = Vec::new();
-    for _ in 0..times {
-        out = std::hint::black_box(report(std::hint::black_box(&file)));
+// Makes the events so often, and sums up the steps.
+struct Runs {
+    times: usize,
+}
+
+impl Over for Runs {
+    type Result = usize;
+
+    fn over<B: Broadcast, C: Consensus>(self, schedule: &Schedule) -> usize {
+        let mut steps = 0;
+        for _ in 0..self.times {
+            // Many.rt keeps the answers of a run, and so does this.
+            let mut answers = Vec::with_capacity(schedule.events.len());
+            let carrier: Carrier<B, C> = make_all(black_box(schedule), |number, refusal| answers.push((number as u16, refusal)));
+            black_box(answers);
+            steps += carrier.steps;
+        }
+        steps
     }
+}
+
+fn many(input: &[u8]) -> Vec<u8> {
+    let end = input.iter().position(|byte| *byte == b'\n').expect("a line that says what to do");
+    let order = std::str::from_utf8(&input[..end]).expect("text");
+    let (what, times) = order.split_once(' ').expect("a word and a number");
+    let times: usize = times.parse().expect("a number of times");
+    let file = &input[end + 1..];
+    let sum = match what {
+        "read" => (0..times).map(|_| read(black_box(file)).map_or(1, |schedule| schedule.events.len())).sum::<usize>(),
+        "run" => over_stack(&read(file).ok().expect("a schedule"), Runs { times }),
+        _ => (0..times).map(|_| report(black_box(file)).len()).sum::<usize>(),
+    };
+    format!("{sum}\n").into_bytes()
+}
+
+fn main() -> std::io::Result<()> {
+    let mut input = Vec::new();
+    std::io::stdin().lock().read_to_end(&mut input)?;
+    let out = if std::env::args().any(|word| word == "many") { many(&input) } else { report(&input) };
     std::io::stdout().lock().write_all(&out)
 }
