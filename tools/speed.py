@@ -201,17 +201,21 @@ def new_carriers(clock):
 
 
 def processes(clock):
-    empty = clock.process([EMPTY], b"")
-    head("One process for each file, in microseconds; an empty process takes %.0f" % (empty * 1e6), "file", "proved", "plain", "proved less empty", "plain less empty")
+    nothing = clock.process([EMPTY], b"")
+    start = both(lambda program: clock.process(program.once, b""))
+    title = "One process for each file, in microseconds; a Rust program that does nothing takes %.0f" % (nothing * 1e6)
+    head(title, "file", "proved", "plain", "proved, less that of the empty file", "plain, likewise")
+    row("the empty file (a fault)", *["%.0f" % (it * 1e6) for it in start], 0, 0)
     files = [
         ("no note, no event, board register", schedule("board register", 6, 0, [])),
         ("no note, no event, relay flood", schedule("relay flood", 6, 0, [])),
-        ("one batch of 32, relay flood", one_batch("relay flood", 6, 32, MOST)),
-        ("note by note, 32, relay flood", note_by_note("relay flood", 6, 32, MOST)),
+        ("one batch, 6 cards and 32 notes, relay flood", one_batch("relay flood", 6, 32, MOST)),
+        ("note by note, 6 cards and 32 notes, relay flood", note_by_note("relay flood", 6, 32, MOST)),
     ]
     for name, data in files:
-        proved, plain = both(lambda program: clock.process(program.once, data))
-        row(name, *["%.0f" % (it * 1e6) for it in (proved, plain, proved - empty, plain - empty)])
+        times = both(lambda program: clock.process(program.once, data))
+        more = [whole - alone for whole, alone in zip(times, start)]
+        row(name, *["%.0f" % (it * 1e6) for it in times + more])
 
 
 def reading(clock):
@@ -228,12 +232,13 @@ def reading(clock):
 
 def growth(clock):
     sizes = [(3, 32), (6, 8), (6, 16), (6, 32)]
-    for program in PROGRAMS:
-        title = "Note by note, %s: nanoseconds per step (steps)" % program.name
-        head(title, "pile", *["%d cards, %d notes" % size for size in sizes])
-        for pile in PILES:
-            cells = [step_time(clock, program, note_by_note, pile, cards, notes) for cards, notes in sizes]
-            row(pile, *["%.1f (%d)" % (each * 1e9, steps) for steps, each in cells])
+    for name, story in (("One batch", one_batch), ("Note by note", note_by_note)):
+        for program in PROGRAMS:
+            title = "%s, %s: nanoseconds per step (steps)" % (name, program.name)
+            head(title, "pile", *["%d cards, %d notes" % size for size in sizes])
+            for pile in PILES:
+                cells = [step_time(clock, program, story, pile, cards, notes) for cards, notes in sizes]
+                row(pile, *["%.1f (%d)" % (each * 1e9, steps) for steps, each in cells])
     head("Refused events, each reported: nanoseconds per event", "events", "proved", "plain", "plain / proved")
     for count in (512, 1024, 2048, 4096):
         proved, plain = both(lambda program: clock.each(program, "report", refused("board register", count)))
