@@ -93,7 +93,11 @@ UNTOLD = {
     ],
     "what settle answers is not printed": ["total_order/settle_invents_its_count", "total_order/settle_reports_rest_at_its_limit"],
     "the broadcast and the consensus know of the same crashes": ["total_order/has_crashed_asks_the_consensus"],
-    "room is a question of memory; a wire of relay or all-ack never holds more than 800 items": ["spread/room-too-small", "wire/no-room-reserved"],
+    "room is a question of memory; a wire of relay or all-ack never holds more than 800 items, and one of flooding not nearly as many as it has room for": [
+        "flooding/room_too_small",
+        "spread/room-too-small",
+        "wire/no-room-reserved",
+    ],
     "a card counts itself where it relays, so it has counted itself of every note that it can be handed": ["allack/new-counts-not-empty"],
     "an item of a past round comes from a card that its receiver suspects": ["flooding/item_of_a_past_round_counted"],
     "what is kept of a suspected card is dropped when its round comes": ["flooding/new_item_of_a_suspected_card_kept"],
@@ -287,6 +291,16 @@ def _(right):
 @reading("settle makes two steps for one", r.Carrier, "settle", "total_order/settle_made_in_its_first_step")
 def _(right):
     return lambda self, limit: right(self, 2 * limit)
+
+
+@reading("settle runs to rest, whatever its limit, and counts one step", r.Carrier, "settle", "total_order/settle_runs_to_rest_in_its_first_step")
+def _(right):
+    def settle(self, limit):
+        before = self.steps
+        right(self, 1000000)
+        self.steps = min(self.steps, before + 1)
+
+    return settle
 
 
 @reading("whether a card can propose is asked in card 0's instance", r.Carrier, "can_propose", "total_order/can_propose_asks_the_first_instance")
@@ -738,6 +752,27 @@ def _(right):
     return lambda self, k, p: right(self, p, k)
 
 
+@reading("what is decided is found at the card that has the instance's number", r.Consensus, "decision_of", "tables/grid-read-at-the-instance")
+def _(right):
+    return lambda self, k, p: right(self, k, k)
+
+
+@reading("what is decided is written down at card 0 only", r.Consensus, "decision_of", "tables/grid-written-at-the-first-card")
+def _(right):
+    return lambda self, k, p: right(self, k, p) if p == 0 else None
+
+
+@reading(
+    "nothing is decided in the last of 32 instances",
+    r.Consensus,
+    "decision_of",
+    "tables/grid-of-31-instances",
+    "tables/grid-without-its-last-instance",
+)
+def _(right):
+    return lambda self, k, p: right(self, k, p) if k < 31 else None
+
+
 @reading("what is proposed is found by card and then by instance", r.Consensus, "proposal_of", "register/proposal-backwards")
 def _(right):
     return lambda self, k, p: right(self, p, k)
@@ -1158,7 +1193,7 @@ def _(right):
 # Flooding.
 
 
-@reading("flooding: an item of a suspected card is counted", r.Flood, "receive", "flooding/item_of_a_suspected_card_counted")
+@reading("flooding: an item of a suspected card is counted", r.Flood, "receive", "flooding/item_of_a_suspected_card_counted", "flooding/new_item_of_a_suspected_card_counted")
 def _(right):
     def receive(self, sender, to, load):
         doubted, self.doubts = self.doubts, self.doubts - {(to, sender)}

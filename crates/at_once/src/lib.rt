@@ -2,3 +2,5 @@
 #![tactic(auto)]
 
 pub mod state;
+#[cfg(test)]
+mod tests;
