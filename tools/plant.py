@@ -155,7 +155,8 @@ def try_one(folder, plant):
         return "refused", "no answer within 400 s"
     finally:
         path.write_text(before)
-    if "logic=proved" in said.split("\n")[-2] or re.search(r"^logic=proved", said.strip().split("\n")[-1]):
+    # The last such line is the crate's own; those before it are of crates below, and notes may follow it.
+    if re.findall(r"^logic=(\S+)", said, re.M)[-1:] == ["proved"]:
         return "lives", ""
     first = re.search(r"^note: (src/\S+: it is not proved[^\n]*)", said, re.M)
     if first:

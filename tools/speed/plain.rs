@@ -78,7 +78,6 @@ fn send<L: Copy>(wire: &mut Wire<L>, cards: &Cards, from: usize, load: L) {
 trait Part {
     type Load: Copy;
     fn wire(&mut self) -> &mut Wire<Self::Load>;
-    fn wire_len(&self) -> usize;
     fn receive(&mut self, cards: &Cards, item: Item<Self::Load>);
     fn suspected(&mut self, cards: &Cards, by: usize);
 
@@ -133,10 +132,6 @@ impl Part for Relay {
         &mut self.wire
     }
 
-    fn wire_len(&self) -> usize {
-        self.wire.len()
-    }
-
     fn receive(&mut self, cards: &Cards, item: Item<u8>) {
         self.meet(cards, item.to as usize, item.load);
     }
@@ -185,10 +180,6 @@ impl Part for AllAck {
         &mut self.wire
     }
 
-    fn wire_len(&self) -> usize {
-        self.wire.len()
-    }
-
     fn receive(&mut self, cards: &Cards, item: Item<u8>) {
         self.count(cards, item.to as usize, item.from as usize, item.load as usize);
     }
@@ -229,10 +220,6 @@ impl Part for Board {
         &mut self.wire
     }
 
-    fn wire_len(&self) -> usize {
-        self.wire.len()
-    }
-
     fn receive(&mut self, _cards: &Cards, item: Item<u8>) {
         self.sets[item.to as usize] |= 1 << item.load;
     }
@@ -268,10 +255,6 @@ impl<B: Broadcast> Part for InTurn<B> {
 
     fn wire(&mut self) -> &mut Wire<B::Load> {
         self.lower.wire()
-    }
-
-    fn wire_len(&self) -> usize {
-        self.lower.wire_len()
     }
 
     fn receive(&mut self, cards: &Cards, item: Item<B::Load>) {
@@ -336,10 +319,6 @@ impl Part for Register {
 
     fn wire(&mut self) -> &mut Wire<u8> {
         &mut self.wire
-    }
-
-    fn wire_len(&self) -> usize {
-        self.wire.len()
     }
 
     fn receive(&mut self, cards: &Cards, item: Item<u8>) {
@@ -433,10 +412,6 @@ impl Part for Flood {
 
     fn wire(&mut self) -> &mut Wire<Told> {
         &mut self.wire
-    }
-
-    fn wire_len(&self) -> usize {
-        self.wire.len()
     }
 
     fn receive(&mut self, cards: &Cards, item: Item<Told>) {
@@ -644,8 +619,8 @@ impl<B: Broadcast, C: Consensus> Carrier<B, C> {
     }
 
     fn at_rest(&mut self) -> bool {
-        self.broadcast.wire_len() == 0
-            && self.consensus.wire_len() == 0
+        self.broadcast.wire().len() == 0
+            && self.consensus.wire().len() == 0
             && self.taker().is_none()
             && self.proposer().is_none()
     }
