@@ -101,14 +101,18 @@ impl<P: Copy> Wire<P> {
         }
     }
 
-    // Takes an item off, if there is such an item.
+    // Takes an item off, if there is such an item. Item 0 is what a carrier that settles asks for: it leaves without moving any other.
     pub fn take(&mut self, item: usize) -> Option<Item<P>>
         ensures value { result ≡ slice_get self.old.items item }
         ensures there { is_some result ≡ nat_lt item (length (senders self.old.items)) }
         ensures after { self.new ≡ holding self.old (remove self.old.items item) }
         ensures untouched { is_some result ≡ false → self.new ≡ self.old }
     {
-        self.items.remove(item)
+        if item == 0 {
+            self.items.pop_front()
+        } else {
+            self.items.remove(item)
+        }
     }
 
     // Takes off an item whose sender has crashed; any other is refused.

@@ -1,5 +1,5 @@
 // Rest, and settle, which goes towards it.
-ghost use Rattle.std.specs.Prelude.{◌≡◌};
+ghost use Rattle.std.specs.Prelude.{◌≡◌, false, not};
 ghost use Rattle.total_order.specs.Carrying.{taker, proposer, at_rest, advanced, settled, settle_steps};
 ghost use Rattle.total_order.specs.Models.{model};
 
@@ -11,14 +11,23 @@ use parts::consensus::Consensus;
 impl<B: Broadcast, C: Consensus> Carrier<B, C> {
     // Repeats the first possible of: carry item 0 of the broadcast, carry item 0 of the consensus, take at the lowest card that can, propose at
     // the lowest card that can. It stops when at rest, or when it has made as many steps as the limit says.
+    #[tactic(auto, using(crate::proofs::Settles::settled_further, crate::proofs::Settles::steps_further, crate::proofs::Settles::settled_at_rest, crate::proofs::Settles::steps_at_rest, crate::proofs::Settles::settled_in_full, crate::proofs::Settles::steps_in_full))]
     pub fn settle(&mut self, limit: usize) -> Settling
         ensures steps { result.steps ≡ settle_steps B.Broadcast C.Consensus limit (model B.Broadcast C.Consensus self.old) }
         ensures rest { result.at_rest ≡ at_rest B.Broadcast C.Consensus (settled B.Broadcast C.Consensus limit (model B.Broadcast C.Consensus self.old)) }
         ensures after { model B.Broadcast C.Consensus self.new ≡ settled B.Broadcast C.Consensus limit (model B.Broadcast C.Consensus self.old) }
     {
-        let steps = self.advance_towards_rest(limit);
+        // No `find`: each turn that is not the last changes the carrier.
+        for steps in 0..limit {
+            if !self.advance() {
+                return Settling {
+                    steps,
+                    at_rest: true,
+                };
+            }
+        }
         Settling {
-            steps,
+            steps: limit,
             at_rest: self.is_at_rest(),
         }
     }
@@ -34,26 +43,12 @@ impl<B: Broadcast, C: Consensus> Carrier<B, C> {
             && self.proposer().is_none()
     }
 
-    // The steps that were made.
-    #[tactic(auto, using(crate::proofs::Settles::settled_further, crate::proofs::Settles::steps_further, crate::proofs::Settles::settled_at_rest, crate::proofs::Settles::steps_at_rest, crate::proofs::Settles::settled_in_full, crate::proofs::Settles::steps_in_full))]
-    fn advance_towards_rest(&mut self, limit: usize) -> usize
-        ensures steps { result ≡ settle_steps B.Broadcast C.Consensus limit (model B.Broadcast C.Consensus self.old) }
-        ensures after { model B.Broadcast C.Consensus self.new ≡ settled B.Broadcast C.Consensus limit (model B.Broadcast C.Consensus self.old) }
-    {
-        // No `find`: each turn that is not the last changes the carrier.
-        for made in 0..limit {
-            if self.is_at_rest() {
-                return made;
-            }
-            self.advance();
-        }
-        limit
-    }
-
-    // The first possible step. An `if` for each: they are calls of four kinds, and two need a card that is found first.
-    #[tactic(auto, unfolding(crate::specs::Carrying::advanced))]
-    fn advance(&mut self)
-        ensures { model B.Broadcast C.Consensus self.new ≡ advanced B.Broadcast C.Consensus (model B.Broadcast C.Consensus self.old) }
+    // The first possible step; false where none is. An `if` for each: they are calls of four kinds, and two need a card that is found first.
+    #[tactic(auto, unfolding(crate::specs::Carrying::advanced, crate::specs::Carrying::at_rest))]
+    fn advance(&mut self) -> bool
+        ensures moved { result ≡ not (at_rest B.Broadcast C.Consensus (model B.Broadcast C.Consensus self.old)) }
+        ensures after { model B.Broadcast C.Consensus self.new ≡ advanced B.Broadcast C.Consensus (model B.Broadcast C.Consensus self.old) }
+        ensures untouched { result ≡ false → self.new ≡ self.old }
     {
         if self.wire_len(Wire::Broadcast) > 0 {
             let _ = self.carry(Wire::Broadcast, 0);
@@ -63,7 +58,10 @@ impl<B: Broadcast, C: Consensus> Carrier<B, C> {
             let _ = self.take(card);
         } else if let Some(card) = self.proposer() {
             let _ = self.propose(card);
+        } else {
+            return false;
         }
+        true
     }
 
     // The lowest card that can take.
