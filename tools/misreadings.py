@@ -91,7 +91,11 @@ UNTOLD = {
         "total_order/new_beyond_six_cards",
         "total_order/new_consensus_of_more_cards",
     ],
-    "what settle answers is not printed": ["total_order/settle_invents_its_count", "total_order/settle_reports_rest_at_its_limit"],
+    "what settle answers is not printed": [
+        "total_order/advance_that_always_went_on",
+        "total_order/settle_invents_its_count",
+        "total_order/settle_reports_rest_at_its_limit",
+    ],
     "the broadcast and the consensus know of the same crashes": ["total_order/has_crashed_asks_the_consensus"],
     "room is a question of memory; a wire of relay or all-ack never holds more than 800 items, and one of flooding not nearly as many as it has room for": [
         "flooding/room_too_small",
@@ -531,6 +535,11 @@ def _(right):
 @reading("carry and lose look for an item, and take off item 0", r.Part, "take", "wire/takes-the-first")
 def _(right):
     return lambda self, i: right(self, 0)
+
+
+@reading("where item 0 is carried or lost, the last one leaves", r.Part, "take", "wire/first_taken_is_the_last")
+def _(right):
+    return lambda self, i: right(self, -1 if i == 0 else i)
 
 
 @reading("a crash lets go only what higher cards sent to the card", r.Part, "crash", "wire/lets-too-few-go")
