@@ -2,8 +2,9 @@
 """Plants small bugs in a crate's code by fixed recipes, one at a time, and checks the crate on each: tools/plant.py [--most N] [--jobs J] [--out FILE] CRATE..
 
 It works on clones of this repository in a folder of its own, and changes nothing here. A plant is refused when the check finds a fact that is no longer proved;
-it is no source when it does not compile (such a plant is passed over, and the next one is tried); it lives when the crate still proves. FILE gets a line of JSON
-for each plant; the table of docs/PLANTED_BUGS.md is made of these lines by tools/planted.py."""
+it is no source when it does not compile (such a plant is passed over, and the next one is tried). Where the crate still proves and is a program, it is run: the
+plant is told when it prints anything but what is stored, or ends otherwise. Else it lives. FILE gets a line of JSON for each plant; the table of
+docs/PLANTED_BUGS.md is made of these lines by tools/planted.py."""
 import argparse
 import concurrent.futures
 import hashlib
@@ -141,6 +142,21 @@ def spread(found, most):
     return out
 
 
+def ran(crate):
+    """What a run of the program says of a plant that its contracts let through."""
+    stored = crate / "stdout"
+    if not stored.exists():
+        return "lives", ""
+    given = crate / "stdin"
+    try:
+        run = subprocess.run(["rt", "try"], cwd=crate, input=given.read_bytes() if given.exists() else b"", capture_output=True, timeout=400)
+    except subprocess.TimeoutExpired:
+        return "told", "it does not end within 400 s"
+    if run.stdout != stored.read_bytes():
+        return "told", "it prints something else"
+    return ("lives", "") if run.returncode == 0 else ("told", "it ends otherwise")
+
+
 def try_one(folder, plant):
     path = folder / "crates" / plant["crate"] / plant["file"]
     before = path.read_text()
@@ -148,16 +164,17 @@ def try_one(folder, plant):
     number, new = plant["text"]
     lines[number] = new
     path.write_text("\n".join(lines))
+    crate = folder / "crates" / plant["crate"]
     try:
-        run = subprocess.run(["rt", "check"], cwd=folder / "crates" / plant["crate"], capture_output=True, text=True, timeout=400)
+        run = subprocess.run(["rt", "check"], cwd=crate, capture_output=True, text=True, timeout=400)
         said = run.stdout + run.stderr
+        # The last such line is the crate's own; those before it are of crates below, and notes may follow it.
+        if re.findall(r"^logic=(\S+)", said, re.M)[-1:] == ["proved"]:
+            return ran(crate)
     except subprocess.TimeoutExpired:
         return "refused", "no answer within 400 s"
     finally:
         path.write_text(before)
-    # The last such line is the crate's own; those before it are of crates below, and notes may follow it.
-    if re.findall(r"^logic=(\S+)", said, re.M)[-1:] == ["proved"]:
-        return "lives", ""
     first = re.search(r"^note: (src/\S+: it is not proved[^\n]*)", said, re.M)
     if first:
         return "refused", first.group(1)[:160]

@@ -9,11 +9,12 @@ crates = defaultdict(list)
 for row in rows:
     if row["verdict"] != "no source":
         crates[row["crate"]].append(row)
-print("| crate | tried | refused | recipes | still proved |\n|---|---|---|---|---|")
+print("| crate | tried | refused | told by what it prints | recipes | neither |\n|---|---|---|---|---|---|")
 for crate, tried in crates.items():
     lives = [r for r in tried if r["verdict"] == "lives"]
+    told = [r for r in tried if r["verdict"] == "told"]
     recipes = ", ".join(f"{n} {k}" for k, n in sorted(Counter(r["recipe"] for r in tried).items(), key=lambda x: -x[1]))
-    print(f"| `{crate}` | {len(tried)} | {len(tried) - len(lives)} | {recipes} | {len(lives)} |")
+    print(f"| `{crate}` | {len(tried)} | {len(tried) - len(told) - len(lives)} | {len(told)} | {recipes} | {len(lives)} |")
 print()
 for row in rows:
     if row["verdict"] == "lives":
