@@ -75,7 +75,6 @@ UNTOLD = {
         "register/suspicion-backwards",
         "relay/suspicion-read-backwards",
     ],
-    "nobody looks at an item that stays on its wire": ["wire/get_looks_at_the_first"],
     "nobody asks in turn for a single note, or takes the layer off": [
         "inturn/counts_as_handed_below",
         "inturn/into_lower_crashes_a_card",

@@ -63,13 +63,6 @@ impl<P: Copy> Wire<P> {
         self.items.get(item).map(|found| found.from)
     }
 
-    // The item at a place, if there is one; it stays on the wire.
-    pub fn get(&self, item: usize) -> Option<Item<P>>
-        ensures { result ≡ slice_get self.now.items item }
-    {
-        self.items.get(item).copied()
-    }
-
     // The items, in order.
     pub fn iter(&self) -> vec_deque::Iter<'_, Item<P>>
         ensures { deque_iter_rest result ≡ self.now.items }
