@@ -1282,7 +1282,7 @@ def _(right):
     return receive
 
 
-@reading("flooding: a card moves only once", r.Flood, "may_move_again", "flooding/moves_only_once")
+@reading("flooding: a card moves only once", r.Flood, "may_move_again", "flooding/moves_only_once", "flooding/settle_stops_after_a_move")
 def _(right):
     return lambda self: False
 

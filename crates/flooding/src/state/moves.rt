@@ -2,7 +2,7 @@ ghost use Rattle.std.specs.Prelude.{◌≡◌, true, is_some};
 ghost use Rattle.notes.specs.Sets.{low};
 ghost use Rattle.tables.specs.Tables.{ballot_in};
 ghost use Rattle.flooding.specs.Enough.{MayEnter, MayKeep};
-ghost use Rattle.flooding.specs.Flooding.{proposal_of, take_in_on, enter_on, decide_on, may_move, move_on, step_on, settle_on, through_on, arrive_on};
+ghost use Rattle.flooding.specs.Flooding.{proposal_of, take_in_on, enter_on, decide_on, may_move, move_on, settle_on, through_on, arrive_on};
 ghost use Rattle.flooding.specs.Seats.{seat_in};
 
 use super::Flooding;
@@ -80,21 +80,16 @@ impl Flooding {
         }
     }
 
-    fn step(&mut self, place: Place)
-        ensures { self.new ≡ step_on self.old place.instance place.card }
-    {
-        if self.may_move(place) {
-            self.move_on(place);
-        }
-    }
-
     // The card moves as often as it can: there are as many rounds as cards, and the last move is the decision.
-    #[tactic(auto, using(crate::proofs::Turns::steps_none, crate::proofs::Turns::steps_more))]
+    #[tactic(auto, using(crate::proofs::Turns::steps_none, crate::proofs::Turns::steps_more, crate::proofs::Turns::steps_end))]
     pub(super) fn settle(&mut self, place: Place)
         ensures { self.new ≡ settle_on self.old place.instance place.card }
     {
         for _turn in 0..self.cards.count() {
-            self.step(place);
+            if !self.may_move(place) {
+                return;
+            }
+            self.move_on(place);
         }
     }
 
