@@ -6,7 +6,7 @@ ghost use Rattle.flooding.specs.Flooding.{proposal_of, take_in_on, enter_on, dec
 ghost use Rattle.flooding.specs.Seats.{seat_in};
 
 use super::Flooding;
-use crate::mail::{Load, take_in};
+use crate::mail::{Load, let_go, take_in};
 use crate::seats::{Place, Seat};
 use histories::rounds;
 use notes::set::NoteSet;
@@ -25,12 +25,14 @@ impl Flooding {
         self.take_in(place);
     }
 
+    // What it takes in is not kept any longer: a card enters a round once.
     #[tactic(auto, using(crate::proofs::Rooms::left_after, crate::specs::Mails::taking_round))]
     fn take_in(&mut self, place: Place)
         ensures { self.new ≡ take_in_on self.old place.instance place.card }
     {
         let seat = self.seats.of(place);
         let taken = take_in(&self.kept, &self.cards, place, seat);
+        let_go(&mut self.kept, place, taken.round);
         self.seats.put(place, taken);
     }
 
@@ -118,7 +120,7 @@ impl Flooding {
             return;
         }
         if seat.round < item.load.round {
-            self.kept.join(item);
+            self.kept.push_reserved(item);
         } else if seat.round == item.load.round {
             self.seats.put(place, seat.hear(&self.cards, item));
             self.settle(place);
