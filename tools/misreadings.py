@@ -104,6 +104,8 @@ UNTOLD = {
     "a card counts itself where it relays, so it has counted itself of every note that it can be handed": ["allack/new-counts-not-empty"],
     "an item of a past round comes from a card that its receiver suspects": ["flooding/item_of_a_past_round_counted"],
     "what is kept of a suspected card is dropped when its round comes": ["flooding/new_item_of_a_suspected_card_kept"],
+    "a card enters a round once, so what is kept for a past round does nothing": ["flooding/taken_items_stay_kept"],
+    "no card is more than one round ahead of a running card, so nothing is kept for a later round than the one entered": ["flooding/items_of_later_rounds_let_go"],
     "a second decision is the first again, as what is known has not changed": ["flooding/decides_twice"],
     "a card stands in one undecided instance at a time": ["flooding/instances_descending"],
 }
@@ -1261,6 +1263,15 @@ def _(right):
     return enter
 
 
+@reading("flooding: what is kept for other cards in the round is let go", r.Flood, "enter", "flooding/items_of_other_cards_let_go")
+def _(right):
+    def enter(self, k, p, n):
+        right(self, k, p, n)
+        self.kept = {place: items for place, items in self.kept.items() if (place[0], place[2]) != (k, n)}
+
+    return enter
+
+
 @reading("flooding: counted cards are carried over to the next round", r.Flood, "enter", "flooding/counted_cards_carried_over")
 def _(right):
     def enter(self, k, p, n):
@@ -1290,7 +1301,7 @@ def _(right):
     return receive
 
 
-@reading("flooding: a card moves only once", r.Flood, "may_move_again", "flooding/moves_only_once")
+@reading("flooding: a card moves only once", r.Flood, "may_move_again", "flooding/moves_only_once", "flooding/settle_stops_after_a_move")
 def _(right):
     return lambda self: False
 
@@ -1347,7 +1358,7 @@ def _(right):
     return lose
 
 
-@reading("flooding: the first item that is ever kept is passed over", r.Flood, "receive", "wire/iter_skips_the_first")
+@reading("flooding: the first item that is ever kept is passed over", r.Flood, "receive")
 def _(right):
     def receive(self, sender, to, load):
         right(self, sender, to, load)

@@ -15,7 +15,7 @@ use Rattle.flooding.specs.Flooding.{FloodingState, proposal_of}
 use Rattle.flooding.specs.Made.{fates_of, brings, Underway}
 use Rattle.flooding.specs.Sound.{Stands, SaysIn, TiedSeats, SoundFlooding}
 use Rattle.flooding.specs.Pasts.{Further, round_grows}
-use Rattle.flooding.specs.Sits.{seated_stays, trues_stay}
+use Rattle.flooding.specs.Sits.{seated_stays}
 
 -- Another place than (k, q).
 abbrev pub Elsewhere : ℕ → ℕ → ℕ → ℕ → Type 0
@@ -24,12 +24,12 @@ Elsewhere k q j p = (j ≡ k) × (p ≡ q) → ⊥
 pub here_or_elsewhere : (k q j p : ℕ) → ((j ≡ k) × (p ≡ q)) ⊎ Elsewhere k q j p
 here_or_elsewhere k q j p = ⊎_elim (λ a. ⊎_elim (λ b. inl (a, b)) (λ b. inr (λ e. b e.1)) (cases_eq p q)) (λ a. inr (λ e. a e.0)) (cases_eq j k)
 
--- A card acts where the cards and what is kept stay.
-abbrev pub after : FloodingState → List (List (Option ℕ)) → List (List (Option ℕ)) → List (List Seat) → List (Item Load) → FloodingState
-after x t d ss w = record { cards = x.cards; proposals = t; decisions = d; seats = ss; wire = w; kept = x.kept }
+-- A card acts where the cards stay.
+abbrev pub after : FloodingState → List (List (Option ℕ)) → List (List (Option ℕ)) → List (List Seat) → List (Item Load) → List (Item Load) → FloodingState
+after x t d ss w ks = record { cards = x.cards; proposals = t; decisions = d; seats = ss; wire = w; kept = ks }
 
 -- Card q acts in instance k and comes to stage r with the history l.
-pub record Action (x : FloodingState) (t d : List (List (Option ℕ))) (ss : List (List Seat)) (w : List (Item Load)) (k q r : ℕ) (g : TiedSeats x k) (l : Past) : Type 0 where
+pub record Action (x : FloodingState) (t d : List (List (Option ℕ))) (ss : List (List Seat)) (w ks : List (Item Load)) (k q r : ℕ) (g : TiedSeats x k) (l : Past) : Type 0 where
   pub seats_stay : (j p : ℕ) → Elsewhere k q j p → seat_in ss j p ≡ seat_in x.seats j p
   pub decisions_stay : (j p : ℕ) → Elsewhere k q j p → ballot_in d j p ≡ ballot_in x.decisions j p
   pub proposals_stay : (j p : ℕ) → Elsewhere k q j p → ballot_in t j p ≡ ballot_in x.proposals j p
@@ -41,11 +41,15 @@ pub record Action (x : FloodingState) (t d : List (List (Option ℕ))) (ss : Lis
   pub wire_true : AllByRecursion (SaysIn x.cards.count l k) w
   pub wire_others : (j : ℕ) → (j ≢ k) → (o : TiedSeats x j) → AllByRecursion (SaysIn x.cards.count o.past j) w
   pub wire_stays : (j s a b : ℕ) → any_of (brings j s a b) x.wire ≡ true → any_of (brings j s a b) w ≡ true
+  pub kept_true : AllByRecursion (SaysIn x.cards.count l k) ks
+  pub kept_others : (j : ℕ) → (j ≢ k) → (o : TiedSeats x j) → AllByRecursion (SaysIn x.cards.count o.past j) ks
+  -- all stays kept but what was kept for it and the round that it comes to
+  pub kept_stays : (j s a b : ℕ) → ((j ≡ k) × (s ≡ r) × (b ≡ q) → ⊥) → any_of (brings j s a b) x.kept ≡ true → any_of (brings j s a b) ks ≡ true
   -- on entering a round it sends to all, and takes in what was kept
   pub sent : g.past.round q < r → r ≤ x.cards.count → (b : ℕ) → b < x.cards.count → (b ≢ q) → crashed_in x.cards b ≡ false → any_of (brings k r q b) w ≡ true
   pub taken : g.past.round q < r → r ≤ x.cards.count → (a : ℕ) → a < x.cards.count → crashed_in x.cards a ≡ false → any_of (brings k r a q) x.kept ≡ true → l.counted q r a ≡ true
 
-module _ (x : FloodingState) (t d : List (List (Option ℕ))) (ss : List (List Seat)) (w : List (Item Load)) (k q r : ℕ) (g : TiedSeats x k) (l : Past) (a : Action x t d ss w k q r g l) where
+module _ (x : FloodingState) (t d : List (List (Option ℕ))) (ss : List (List Seat)) (w ks : List (Item Load)) (k q r : ℕ) (g : TiedSeats x k) (l : Past) (a : Action x t d ss w ks k q r g l) where
   proposal_grows : (j s : ℕ) (o : Option ℕ) → proposal_of x.proposals j o ≡ Some s → proposal_of t j o ≡ Some s
   proposal_grows j s None e = e
   proposal_grows j s (Some p) e =
@@ -67,20 +71,20 @@ module _ (x : FloodingState) (t d : List (List (Option ℕ))) (ss : List (List S
         decided = λ v i. ((u.decided v i).0, proposal_grows j v _ (u.decided v i).1);
       }))
 
-  others_tied : (j : ℕ) → (j ≢ k) → TiedSeats x j → TiedSeats (after x t d ss w) j
+  others_tied : (j : ℕ) → (j ≢ k) → TiedSeats x j → TiedSeats (after x t d ss w ks) j
   others_tied j e o =
       record {
         past = o.past;
         history = o.history;
         stands = λ p b. elsewhere_stands o.past j p (λ i. e i.0) (o.stands p b);
         wire_true = a.wire_others j e o;
-        kept_true = o.kept_true;
-        due = λ p b s bp bb i up ub o1 m hp hb. ⊎_elim (λ v. inl (a.wire_stays j s p b v)) (λ v. inr v) (o.due p b s bp bb i up ub o1 m hp hb);
+        kept_true = a.kept_others j e o;
+        due = λ p b s bp bb i up ub o1 m hp hb. ⊎_elim (λ v. inl (a.wire_stays j s p b v)) (⊎_elim (λ v. inr (inl (v.0, a.kept_stays j s p b (λ z. e z.0) v.1))) (λ v. inr (inr v))) (o.due p b s bp bb i up ub o1 m hp hb);
       }
 
   due_after : (p b s : ℕ) → p < x.cards.count → b < x.cards.count → (b ≢ p) → crashed_in x.cards p ≡ false → crashed_in x.cards b ≡ false
       → 1 ≤ s → s ≤ x.cards.count → s ≤ l.round p → l.round b ≤ s
-      → (any_of (brings k s p b) w ≡ true) ⊎ (((l.round b < s) × (any_of (brings k s p b) x.kept ≡ true)) ⊎ (l.counted b s p ≡ true))
+      → (any_of (brings k s p b) w ≡ true) ⊎ (((l.round b < s) × (any_of (brings k s p b) ks ≡ true)) ⊎ (l.counted b s p ≡ true))
   due_after p b s bp bb e up ub begun last hp hb =
       let h = g.past in
       let m = a.moved in
@@ -98,7 +102,7 @@ module _ (x : FloodingState) (t d : List (List (Option ℕ))) (ss : List (List S
       (⊎_elim
       (λ v.
       ⊎_elim
-      (λ still. inr (inl (still, v.1)))
+      (λ still. inr (inl (still, a.kept_stays k s p b (λ z. let i = ap l.round z.2 in omega (arith, still, m.now, i, z.1)) v.1)))
       (λ came.
       let before = v.0 in
       let z : b ≡ q = ⊎_elim (λ i. i) (λ i. absurd (omega (arith, m.others b i))) (cases_eq b q) in
@@ -112,7 +116,7 @@ module _ (x : FloodingState) (t d : List (List (Option ℕ))) (ss : List (List S
       (g.due p b s bp bb e up ub begun last old (omega arith)))
       (cases_lt (h.round p) s)
 
-  here_tied : TiedSeats (after x t d ss w) k
+  here_tied : TiedSeats (after x t d ss w ks) k
   here_tied =
       let n : ℕ = x.cards.count in
       let h = g.past in
@@ -134,14 +138,14 @@ module _ (x : FloodingState) (t d : List (List (Option ℕ))) (ss : List (List S
             }))
             (cases_eq p q);
         wire_true = a.wire_true;
-        kept_true = trues_stay n h l q r k x.kept a.moved g.kept_true;
+        kept_true = a.kept_true;
         due = due_after;
       }
 
 -- The whole state, with the proposal that the card has put forward.
-pub action_whole : (x : FloodingState) (t d : List (List (Option ℕ))) (ss : List (List Seat)) (w : List (Item Load)) (k q r : ℕ) (l : Past) (g : SoundFlooding x) (hk : k < 32) → q < x.cards.count
-    → Shaped t → Shaped d → Shaped ss → ((s : ℕ) → ballot_in t k q ≡ Some s → (0 < s) × (s < 2 ^ 32)) → Action x t d ss w k q r (g.tied k hk) l → SoundFlooding (after x t d ss w)
-action_whole x t d ss w k q r l g hk bq st sd sss new a =
+pub action_whole : (x : FloodingState) (t d : List (List (Option ℕ))) (ss : List (List Seat)) (w ks : List (Item Load)) (k q r : ℕ) (l : Past) (g : SoundFlooding x) (hk : k < 32) → q < x.cards.count
+    → Shaped t → Shaped d → Shaped ss → ((s : ℕ) → ballot_in t k q ≡ Some s → (0 < s) × (s < 2 ^ 32)) → Action x t d ss w ks k q r (g.tied k hk) l → SoundFlooding (after x t d ss w ks)
+action_whole x t d ss w ks k q r l g hk bq st sd sss new a =
     let n : ℕ = x.cards.count in
     record {
       sound = g.sound;
@@ -158,7 +162,7 @@ action_whole x t d ss w k q r l g hk bq st sd sss new a =
       items = a.items;
       tied = λ j hj.
           ⊎_elim
-          (λ (e : j ≡ k). subst (TiedSeats (after x t d ss w)) (sym e) (here_tied x t d ss w k q r (g.tied k hk) l a))
-          (λ e. others_tied x t d ss w k q r (g.tied k hk) l a j e (g.tied j hj))
+          (λ (e : j ≡ k). subst (TiedSeats (after x t d ss w ks)) (sym e) (here_tied x t d ss w ks k q r (g.tied k hk) l a))
+          (λ e. others_tied x t d ss w ks k q r (g.tied k hk) l a j e (g.tied j hj))
           (cases_eq j k);
     }

@@ -4,7 +4,7 @@ use Rattle.std.proofs.Common.{sym, ap, subst, ◌∙◌, ⊎_elim, arith}
 use borrow.Author.Tests.{clash}
 use Rattle.std.specs.Int.Count.{count_trailing_zeros}
 use Rattle.std.proofs.ByRecursion.{All-append}
-use Rattle.std.proofs.lemmas.Bool.{cases_Bool, cases_eq, both_ways, cond-true, cond-false, and_parts, and_from, or_cases, or_left, or_right, eqb-false, eq-eqb, ne_eqb, lt-ltb, not-true, not_from_false}
+use Rattle.std.proofs.lemmas.Bool.{cases_Bool, cases_eq, both_ways, cond-true, cond-false, and_parts, and_from, or_cases, or_left, or_right, eqb-true, eqb-false, eq-eqb, ne_eqb, lt-ltb, not-true, not_from_false}
 use Rattle.notes.specs.Sets.{has, low}
 use Rattle.notes.proofs.Bits.{has_none, has_added, zeros_lowest}
 use Rattle.parts.proofs.Options.{some_held}
@@ -12,7 +12,7 @@ use Rattle.cards.specs.Cards.{crashed_in, suspects_in}
 use Rattle.tables.specs.Tables.{Shaped, ballot_in, with_ballot}
 use Rattle.wire.specs.Wires.{sent, any_of}
 use Rattle.wire.specs.declared.Item.{Item}
-use Rattle.wire.proofs.Items.{all_sent_are, any_append, any_sent}
+use Rattle.wire.proofs.Items.{all_left, all_sent_are, any_append, any_left, any_sent}
 use Rattle.histories.specs.Histories.{Past, Fates, History}
 use Rattle.histories.specs.Moves.{heard_of, passing}
 use Rattle.histories.proofs.Agrees.{own_known, validity}
@@ -20,7 +20,7 @@ use Rattle.histories.proofs.Kept.{moves_make_histories}
 use Rattle.histories.proofs.Puts.{row_same}
 use Rattle.flooding.specs.Seats.{no_seat, seat_in, with_seat, entering, hearing}
 use Rattle.flooding.specs.declared.seats.Seat.{Seat}
-use Rattle.flooding.specs.Mail.{taking_in}
+use Rattle.flooding.specs.Mail.{is_for, taking_in, stays_kept, still_kept}
 use Rattle.flooding.specs.declared.mail.Load.{Load}
 use Rattle.flooding.specs.Flooding.{FloodingState, seat_on, enter_on, decide_on, proposal_of, may_move}
 use Rattle.flooding.specs.Made.{fates_of, brings, Underway}
@@ -31,6 +31,7 @@ use Rattle.flooding.specs.Works.{cell_same, cell_other, may_move_means}
 use Rattle.flooding.specs.Pasts.{Further, no_further, passing_further, then_further, none_beyond}
 use Rattle.flooding.specs.Sits.{Sits, seated_stays, trues_stay, enters, hears, takes_in, hearing_grows, taking_grows, taking_counts}
 use Rattle.flooding.specs.Actions.{Elsewhere, after, action_whole}
+use Rattle.flooding.specs.Leaves.{brings_parts}
 
 -- A card that sits in a round and has not decided stands there.
 sits_stand : (n : ℕ) (f : Fates) (h : Past) (t : List (List (Option ℕ))) (k q r : ℕ) (d : Option ℕ) (s : Seat) (a : Sits n f h q r s) → is_some d ≡ false → is_some (ballot_in t k q) ≡ true → 1 ≤ r → has s.counted q ≡ true
@@ -43,6 +44,19 @@ sits_stand n f h t k q r d s a u p o self =
       self_counted = λ _. self;
       decided = λ v e. absurd (clash (sym u ∙ ap is_some e));
     }
+
+-- An item for another card or another round stays kept.
+others_stay : (k r q j i p b : ℕ) (y : Item Load) → ((j ≡ k) × (i ≡ r) × (b ≡ q) → ⊥) → brings j i p b y ≡ true → stays_kept k r q y ≡ true
+others_stay k r q j i p b y d w =
+    not_from_false _
+    (⊎_elim
+    (λ t.
+    let z = brings_parts j i p b y w in
+    let e = and_parts (y.load.instance == k) (y.load.round == r && y.to == q) t in
+    let f = and_parts (y.load.round == r) (y.to == q) e.1 in
+    absurd (d (sym z.2 ∙ eqb-true _ _ e.0, sym z.3 ∙ eqb-true _ _ f.0, sym z.1 ∙ eqb-true _ _ f.1)))
+    (λ t. t)
+    (cases_Bool (is_for k r q y)))
 
 module _ (x : FloodingState) (k q : ℕ) (g : SoundFlooding x) (hk : k < 32) (bq : q < x.cards.count) (up : crashed_in x.cards q ≡ false) (undecided : is_some (ballot_in x.decisions k q) ≡ false) where
   abbrev n : ℕ
@@ -75,7 +89,7 @@ module _ (x : FloodingState) (k q : ℕ) (g : SoundFlooding x) (hk : k < 32) (bq
       let a = hears c h q r g.sound.few bq up begun s y t to e still in
       let s' : Seat = hearing c q y.from y.load.known s in
       let same : seat_in (with_seat x.seats k q s') k q ≡ s' = cell_same x.seats k q s' no_seat g.seats_shaped hk six in
-      action_whole x x.proposals x.decisions (with_seat x.seats k q s') x.wire k q r a.past g hk bq g.proposals_shaped g.decisions_shaped (shaped_after x.seats k q s' g.seats_shaped hk) (g.proposed_sets k q)
+      action_whole x x.proposals x.decisions (with_seat x.seats k q s') x.wire x.kept k q r a.past g hk bq g.proposals_shaped g.decisions_shaped (shaped_after x.seats k q s' g.seats_shaped hk) (g.proposed_sets k q)
       (record {
         seats_stay = λ j p d. cell_other x.seats k q j p s' no_seat g.seats_shaped hk six d;
         decisions_stay = λ j p d. refl;
@@ -89,6 +103,9 @@ module _ (x : FloodingState) (k q : ℕ) (g : SoundFlooding x) (hk : k < 32) (bq
         wire_true = trues_stay n h a.past q r k x.wire a.moved tie.wire_true;
         wire_others = λ j _ o. o.wire_true;
         wire_stays = λ j i a b w. w;
+        kept_true = trues_stay n h a.past q r k x.kept a.moved tie.kept_true;
+        kept_others = λ j _ o. o.kept_true;
+        kept_stays = λ j i a b _ w. w;
         sent = λ i. absurd (omega (arith, in_round));
         taken = λ i. absurd (omega (arith, in_round));
       })
@@ -98,7 +115,7 @@ module _ (x : FloodingState) (k q : ℕ) (g : SoundFlooding x) (hk : k < 32) (bq
     pub enters_whole : 1 ≤ r → r ≤ n → History n (fates_of x.cards) l → Further tie.past l q r → ((y : ℕ) → l.counted q r y ≡ false) → ((z : ℕ) → has known z ≡ l.knew q r z) → known < 2 ^ 32
         → Shaped t → ((j p : ℕ) → Elsewhere k q j p → ballot_in t j p ≡ ballot_in x.proposals j p) → ((s : ℕ) → ballot_in x.proposals k q ≡ Some s → ballot_in t k q ≡ Some s)
         → is_some (ballot_in t k q) ≡ true → ((s : ℕ) → ballot_in t k q ≡ Some s → (0 < s) × (s < 2 ^ 32))
-        → SoundFlooding (enter_on (after x t x.decisions x.seats x.wire) k q r known)
+        → SoundFlooding (enter_on (after x t x.decisions x.seats x.wire x.kept) k q r known)
     enters_whole begun last i m none knew fits st others mine there new =
         let c = x.cards in
         let h = tie.past in
@@ -108,6 +125,7 @@ module _ (x : FloodingState) (k q : ℕ) (g : SoundFlooding x) (hk : k < 32) (bq
         let seats : List (List Seat) = with_seat first k q s in
         let load : Load = record { instance = k; round = r; known = known } in
         let wire : List (Item Load) = x.wire ++ sent c q load n in
+        let rest : List (Item Load) = still_kept k r q x.kept in
         let g₁ = shaped_after x.seats k q s₀ g.seats_shaped hk in
         let kept = trues_stay n h l q r k x.kept m tie.kept_true in
         let a : Sits n (fates_of c) l q r s = takes_in c l q r g.sound.few bq up begun k s₀ x.kept kept (enters c l q r g.sound.few bq up begun known i m.now last none knew fits) in
@@ -116,8 +134,8 @@ module _ (x : FloodingState) (k q : ℕ) (g : SoundFlooding x) (hk : k < 32) (bq
         let same : seat_in seats k q ≡ s = cell_same first k q s no_seat g₁ hk six in
         let to : (b : ℕ) → b < n → not (crashed_in c b) && not (b == q) ≡ true → (crashed_in c b ≡ false) × (b ≢ q) =
         λ b _ e. let p = and_parts (not (crashed_in c b)) (not (b == q)) e in (not-true _ p.0, eqb-false b q (not-true _ p.1)) in
-        let whole : SoundFlooding (after x t x.decisions seats wire) =
-        action_whole x t x.decisions seats wire k q r a.past g hk bq st g.decisions_shaped (shaped_after first k q s g₁ hk) new
+        let whole : SoundFlooding (after x t x.decisions seats wire rest) =
+        action_whole x t x.decisions seats wire rest k q r a.past g hk bq st g.decisions_shaped (shaped_after first k q s g₁ hk) new
         (record {
           seats_stay = λ j p d. cell_other first k q j p s no_seat g₁ hk six d ∙ cell_other x.seats k q j p s₀ no_seat g.seats_shaped hk six d;
           decisions_stay = λ j p d. refl;
@@ -144,12 +162,16 @@ module _ (x : FloodingState) (k q : ℕ) (g : SoundFlooding x) (hk : k < 32) (bq
           wire_others = λ j d o. All-append (SaysIn n o.past j) x.wire (sent c q load n) o.wire_true
               (all_sent_are (SaysIn n o.past j) c q load n (λ b l' e f. absurd (d (sym f))));
           wire_stays = λ j i p b w. any_append (brings j i p b) x.wire (sent c q load n) ∙ or_left _ _ w;
+          kept_true = all_left (SaysIn n a.past k) (SaysIn n a.past k) (stays_kept k r q) x.kept (λ y u _. u) (trues_stay n h a.past q r k x.kept moved tie.kept_true);
+          kept_others = λ j _ o. all_left (SaysIn n o.past j) (SaysIn n o.past j) (stays_kept k r q) x.kept (λ y u _. u) o.kept_true;
+          kept_stays = λ j i p b d. any_left (brings j i p b) (stays_kept k r q) x.kept (λ y w. others_stay k r q j i p b y d w);
           sent = λ _ _ b l' d ub. any_append (brings k r q b) x.wire (sent c q load n)
               ∙ or_right (any_of (brings k r q b) x.wire) _ (any_sent (brings k r q b) c q load n b l' (and_from _ _ (not_from_false _ ub) (not_from_false _ (ne_eqb b q d)))
               (and_from _ _ (and_from _ _ (eq-eqb k k refl) (eq-eqb r r refl)) (and_from _ _ (eq-eqb q q refl) (eq-eqb b b refl))));
           taken = λ _ _ p bp ua w. ap (λ j. a.past.counted q j p) (sym a.here) ∙ sym (a.seated.counts p bp) ∙ taking_counts c q k r s₀ x.kept p refl (omega (arith, g.sound.few)) (trusts p ua) w;
         }) in
-        subst (λ (z : Seat). SoundFlooding (after x t x.decisions (with_seat first k q (taking_in c k q z x.kept)) (x.wire ++ sent c q (record { instance = k; round = z.round; known = z.known }) n)))
+        subst
+        (λ (z : Seat). SoundFlooding (after x t x.decisions (with_seat first k q (taking_in c k q z x.kept)) (x.wire ++ sent c q (record { instance = k; round = z.round; known = z.known }) n) (still_kept k z.round q x.kept)))
         (sym (cell_same x.seats k q s₀ no_seat g.seats_shaped hk six)) whole
 
 -- A card that may move enters the next round, or decides.
@@ -247,7 +269,7 @@ module _ (x : FloodingState) (k q : ℕ) (g : SoundFlooding x) (hk : k < 32) (bq
         let six : q < 6 = omega (arith, g.sound.few) in
         let moved = next_further (suc n) (ap suc last) in
         let same : ballot_in (with_ballot x.decisions k q o) k q ≡ o = cell_same x.decisions k q o None g.decisions_shaped hk six in
-        action_whole x x.proposals (with_ballot x.decisions k q o) x.seats x.wire k q (suc n) next g hk bq g.proposals_shaped (shaped_after x.decisions k q o g.decisions_shaped hk) g.seats_shaped (g.proposed_sets k q)
+        action_whole x x.proposals (with_ballot x.decisions k q o) x.seats x.wire x.kept k q (suc n) next g hk bq g.proposals_shaped (shaped_after x.decisions k q o g.decisions_shaped hk) g.seats_shaped (g.proposed_sets k q)
         (record {
           seats_stay = λ j p d. refl;
           decisions_stay = λ j p d. cell_other x.decisions k q j p o None g.decisions_shaped hk six d;
@@ -266,6 +288,9 @@ module _ (x : FloodingState) (k q : ℕ) (g : SoundFlooding x) (hk : k < 32) (bq
           wire_true = trues_stay n now next q (suc n) k x.wire moved t.wire_true;
           wire_others = λ j _ i. i.wire_true;
           wire_stays = λ j i a b w. w;
+          kept_true = trues_stay n now next q (suc n) k x.kept moved t.kept_true;
+          kept_others = λ j _ i. i.kept_true;
+          kept_stays = λ j i a b _ w. w;
           sent = λ _ i. absurd (omega arith);
           taken = λ _ i. absurd (omega arith);
         })

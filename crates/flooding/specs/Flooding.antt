@@ -10,7 +10,7 @@ use Rattle.wire.specs.Wires.{senders, sent, without_to}
 use Rattle.wire.specs.declared.Item.{Item}
 use Rattle.flooding.specs.Seats.{new_seats, seat_in, with_seat, entering, hearing, ready}
 use Rattle.flooding.specs.declared.seats.Seat.{Seat}
-use Rattle.flooding.specs.Mail.{telling, taking_in}
+use Rattle.flooding.specs.Mail.{telling, taking_in, still_kept}
 use Rattle.flooding.specs.declared.mail.Load.{Load}
 
 -- `kept` are the items that came before their round: they wait there until their receiver enters it.
@@ -82,9 +82,17 @@ tell_on x k q =
       kept = x.kept;
     }
 
--- It takes in what was kept for its round.
+-- It takes in what was kept for its round, and that is kept no longer: a card enters a round once.
 abbrev pub take_in_on : FloodingState → ℕ → ℕ → FloodingState
-take_in_on x k q = seat_on x k q (taking_in x.cards k q (seat_in x.seats k q) x.kept)
+take_in_on x k q =
+    record {
+      cards = x.cards;
+      proposals = x.proposals;
+      decisions = x.decisions;
+      seats = with_seat x.seats k q (taking_in x.cards k q (seat_in x.seats k q) x.kept);
+      wire = x.wire;
+      kept = still_kept k (seat_in x.seats k q).round q x.kept;
+    }
 
 -- A card that enters a round sends first, then takes in.
 abbrev pub enter_on : FloodingState → ℕ → ℕ → ℕ → ℕ → FloodingState

@@ -1,5 +1,5 @@
 -- Lists of items: those under way, and those that are kept for a later round.
-use Rattle.std.specs.Prelude.{ℕ, Bool, cond, ◌&&◌, List, [], ◌∷◌, ◌==◌}
+use Rattle.std.specs.Prelude.{ℕ, Bool, cond, not, ◌&&◌, List, [], ◌∷◌, filter, ◌==◌}
 use Rattle.cards.specs.Cards.{CardState}
 use Rattle.wire.specs.declared.Item.{Item}
 use Rattle.flooding.specs.Seats.{seat_in, hearing}
@@ -21,3 +21,10 @@ taking_one c k q s y = cond (is_for k s.round q y) (hearing c q y.from y.load.kn
 abbrev pub taking_in : CardState → ℕ → ℕ → Seat → List (Item Load) → Seat
 taking_in c k q s [] = s
 taking_in c k q s (y ∷ ys) = taking_in c k q (taking_one c k q s y) ys
+
+-- What stays kept when card q takes in what is kept for round r: all that is not for that round.
+abbrev pub stays_kept : ℕ → ℕ → ℕ → Item Load → Bool
+stays_kept k r q y = not (is_for k r q y)
+
+abbrev pub still_kept : ℕ → ℕ → ℕ → List (Item Load) → List (Item Load)
+still_kept k r q ys = filter (stays_kept k r q) ys

@@ -3,13 +3,14 @@ use crate::seats::Seats;
 use cards::Cards;
 use std::marker::Model;
 use tables::ballots::Ballots;
-use wire::Wire;
+use wire::{Item, Wire};
 
 pub mod consensus;
 mod laws;
 mod moves;
 
-// The items under way, and those that came before their round and are kept for it: each list has room for all that can be sent.
+// The items under way, and those that came before their round and are kept for it: each list has room for all that can be sent. What is kept is
+// no wire, since nothing is sent or lost there.
 // Three tables by instance and card, and not one of structs: proposals and decisions are tables that the register has too, with their laws.
 #[derive(Drop)]
 pub struct Flooding {
@@ -18,10 +19,11 @@ pub struct Flooding {
     decisions: Ballots,
     seats: Seats,
     wire: Wire<Load>,
-    kept: Wire<Load>,
+    kept: Vec<Item<Load>>,
 }
 
 impl Model for Flooding {
+    ghost use Rattle.std.specs.Prelude.{vec_capacity};
     ghost use Rattle.flooding.specs.Enough.{HasRoom};
     ghost use Rattle.flooding.specs.Flooding.{FloodingState};
 
@@ -30,5 +32,5 @@ impl Model for Flooding {
     ghost view = { λ f. record { cards = f.cards; proposals = f.proposals; decisions = f.decisions; seats = f.seats; wire = f.wire.items; kept = f.kept.items } };
 
     // There is room for every item that is still to be sent, and for keeping it.
-    ghost invariant = { λ f. HasRoom f.cards f.wire f.kept f.proposals f.seats };
+    ghost invariant = { λ f. HasRoom f.cards f.wire (vec_capacity f.kept) f.kept.items f.proposals f.seats };
 }

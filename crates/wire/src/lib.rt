@@ -3,7 +3,6 @@
 ghost use Rattle.std.specs.Prelude.{◌≡◌, ◌+◌, ◌≤◌, false, [], ◌++◌, length, is_ok, is_some, IfOk, if◌then◌else◌, nat_lt, slice_index_or};
 ghost use Rattle.std.specs.List.{slice_get, remove};
 ghost use Rattle.std.specs.Option.{unwrap_or};
-ghost use Rattle.std.specs.VecDeque.Iter.{deque_iter_rest};
 ghost use Rattle.parts.specs.Refusals.{lose_answer, crash_answer};
 ghost use Rattle.cards.specs.Cards.{net_of, with_crash};
 ghost use Rattle.wire.specs.Wires.{holding, senders, joined, sending, sent, without_to};
@@ -11,7 +10,7 @@ ghost use Rattle.wire.specs.Wires.{holding, senders, joined, sending, sent, with
 use cards::Cards;
 use parts::refusal::Refusal;
 use std::alloc::{AllocError, Global};
-use std::collections::{VecDeque, vec_deque};
+use std::collections::VecDeque;
 use std::marker::Model;
 
 // An item under way: its sender, a card or 7 for the carrier; its destination, likewise; and what it brings. The interfaces say 7, so this does.
@@ -61,13 +60,6 @@ impl<P: Copy> Wire<P> {
         ensures sender { unwrap_or result 7 ≡ slice_index_or (senders self.now.items) item 7 }
     {
         self.items.get(item).map(|found| found.from)
-    }
-
-    // The items, in order.
-    pub fn iter(&self) -> vec_deque::Iter<'_, Item<P>>
-        ensures { deque_iter_rest result ≡ self.now.items }
-    {
-        self.items.iter()
     }
 
     // An item that finds no room does not join.

@@ -76,7 +76,7 @@ impl Consensus for Flooding {
     #[tactic(auto, using(crate::proofs::Rooms::new_rounds))]
     fn new(heap: Global, count: usize) -> Result<Flooding, AllocError> {
         let wire = Wire::new(heap, ROOM)?;
-        let kept = Wire::new(heap, ROOM)?;
+        let kept = Vec::with_capacity(heap, ROOM)?;
         Ok(Flooding {
             cards: Cards::new(count),
             proposals: Ballots::new(),

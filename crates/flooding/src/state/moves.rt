@@ -2,11 +2,11 @@ ghost use Rattle.std.specs.Prelude.{◌≡◌, true, is_some};
 ghost use Rattle.notes.specs.Sets.{low};
 ghost use Rattle.tables.specs.Tables.{ballot_in};
 ghost use Rattle.flooding.specs.Enough.{MayEnter, MayKeep};
-ghost use Rattle.flooding.specs.Flooding.{proposal_of, take_in_on, enter_on, decide_on, may_move, move_on, step_on, settle_on, through_on, arrive_on};
+ghost use Rattle.flooding.specs.Flooding.{proposal_of, take_in_on, enter_on, decide_on, may_move, move_on, settle_on, through_on, arrive_on};
 ghost use Rattle.flooding.specs.Seats.{seat_in};
 
 use super::Flooding;
-use crate::mail::{Load, take_in};
+use crate::mail::{Load, let_go, take_in};
 use crate::seats::{Place, Seat};
 use histories::rounds;
 use notes::set::NoteSet;
@@ -25,12 +25,14 @@ impl Flooding {
         self.take_in(place);
     }
 
+    // What it takes in is not kept any longer: a card enters a round once.
     #[tactic(auto, using(crate::proofs::Rooms::left_after, crate::specs::Mails::taking_round))]
     fn take_in(&mut self, place: Place)
         ensures { self.new ≡ take_in_on self.old place.instance place.card }
     {
         let seat = self.seats.of(place);
         let taken = take_in(&self.kept, &self.cards, place, seat);
+        let_go(&mut self.kept, place, taken.round);
         self.seats.put(place, taken);
     }
 
@@ -80,21 +82,16 @@ impl Flooding {
         }
     }
 
-    fn step(&mut self, place: Place)
-        ensures { self.new ≡ step_on self.old place.instance place.card }
-    {
-        if self.may_move(place) {
-            self.move_on(place);
-        }
-    }
-
     // The card moves as often as it can: there are as many rounds as cards, and the last move is the decision.
-    #[tactic(auto, using(crate::proofs::Turns::steps_none, crate::proofs::Turns::steps_more))]
+    #[tactic(auto, using(crate::proofs::Turns::steps_none, crate::proofs::Turns::steps_more, crate::proofs::Turns::steps_end))]
     pub(super) fn settle(&mut self, place: Place)
         ensures { self.new ≡ settle_on self.old place.instance place.card }
     {
         for _turn in 0..self.cards.count() {
-            self.step(place);
+            if !self.may_move(place) {
+                return;
+            }
+            self.move_on(place);
         }
     }
 
@@ -123,7 +120,7 @@ impl Flooding {
             return;
         }
         if seat.round < item.load.round {
-            self.kept.join(item);
+            self.kept.push_reserved(item);
         } else if seat.round == item.load.round {
             self.seats.put(place, seat.hear(&self.cards, item));
             self.settle(place);
