@@ -1,4 +1,5 @@
 pub mod Turns
+pub mod Entries
 pub mod Layers
 pub mod Models
 pub mod Calls
