@@ -1,7 +1,7 @@
 -- What each post needs, and what counts by it.
 use Rattle.std.proofs.Common.{◌≡◌, ℕ, eqb, ltb, ◌+◌, ◌<◌, ◌≤◌, true, false, cond, not, ◌&&◌, ◌||◌, List, [], ◌∷◌, ◌++◌, take, length, get_or, sym, refl, ap, ◌∙◌, subst, ⊎_elim, arith}
 use Rattle.std.specs.Prelude.{◌==◌, bit_or}
-use Rattle.std.proofs.lemmas.Bool.{cases_Bool, cases_eq, lt-ltb, ne_eqb, and_parts, and_from, or_cases, or_left, or_right, eqb-true, eqb-false, eq-eqb, cond-true, cond-false, both_ways}
+use Rattle.std.proofs.lemmas.Bool.{cases_Bool, cases_eq, lt-ltb, and_parts, and_from, or_cases, or_left, or_right, eqb-true, eq-eqb, cond-true, cond-false, both_ways}
 use Rattle.std.proofs.lemmas.Bool.Decides.{nat_tests}
 use Rattle.std.proofs.lemmas.List.{get_or_append_left, get_or_push, length_push, length-map, get_or_default, map-append, take_all, take-append-le}
 use Rattle.std.proofs.Math.ListN.{get_or-map}
@@ -171,8 +171,8 @@ module _ (posts : List Post) (x : Post) (n : ℕ) (needs : Needs (posts ++ (x �
       let b : m ≡ x.note → has n m ≡ true = λ e. ap (has n) e ∙ needs_itself in
       grind (arith, nat_tests, q, a, b)
 
-  pub counts_without_needs : (s : ℕ) → (minus n s ≡ 0 → ⊥) → in_turn longer s ≡ in_turn posts s
-  counts_without_needs s h = in_turn_push posts x s ∙ cond-false _ _ _ (sym (needs.held s) ∙ ne_eqb (minus n s) 0 h)
+  pub counts_without_needs : (s : ℕ) → (minus n s == 0) ≡ false → in_turn longer s ≡ in_turn posts s
+  counts_without_needs s h = in_turn_push posts x s ∙ cond-false _ _ _ (sym (needs.held s) ∙ h)
 
 -- How far the loop over a table has come, from its end: what counts is what is counted so far, and what counts of the rest.
 pub record Looked (posts : List Post) (handed counted : ℕ) (rest : List Entry) : Type 0 where
@@ -183,30 +183,28 @@ pub none_looked : (entries rest : List Entry) (posts : List Post) (s c : ℕ) �
 none_looked entries rest posts s c k p r z =
     subst (λ l. Looked l s c rest) p (subst (Looked (posts_of entries) s c) (sym r) (record { kept = k; counts = λ m. sym (ap (λ b. b || has (in_turn (posts_of entries) s) m) (ap (λ n. has n m) z ∙ has_none m)) }))
 
-module _ (posts : List Post) (s c n : ℕ) (all rest : List Entry) (e : Entry) (l : Looked posts s c all) (split : all ≡ rest ++ (e ∷ [])) (lacks : n ≡ minus e.needs s) where
-  from_last : Looked posts s c (rest ++ (e ∷ []))
-  from_last = subst (Looked posts s c) split l
-
-  pub look_counts : (d : ℕ) → true ≡ (n == 0) → d ≡ bit_or c e.needs → Looked posts s d rest
-  look_counts d h u =
-      record {
-        kept = kept_first rest e from_last.kept;
-        counts = λ m.
-            let t = from_last.counts m in
-            let u = ap (λ n. has n m) u ∙ has_union c e.needs m in
-            let p = ap (λ p. has (in_turn p s) m) (posts_more rest e) in
-            let n = counts_by_needs (posts_of rest) e.post e.needs (kept_last rest e from_last.kept).1 s (sym lacks ∙ eqb-true n 0 (sym h)) (notes_of_posts rest e from_last.kept) m in
-            grind (arith, nat_tests, t, u, p, n);
-      }
-
-  pub look_passes : false ≡ (n == 0) → Looked posts s c rest
-  look_passes h =
-      record {
-        kept = kept_first rest e from_last.kept;
-        counts = λ m.
-            from_last.counts m
-            ∙ ap (λ n. has c m || has n m) (ap (λ p. in_turn p s) (posts_more rest e) ∙ counts_without_needs (posts_of rest) e.post e.needs (kept_last rest e from_last.kept).1 s (λ z. eqb-false n 0 (sym h) (lacks ∙ z)));
-      }
+-- One entry more, as the loop goes.
+pub look_on : (posts : List Post) (s c d n : ℕ) (all rest : List Entry) (e : Entry) → Looked posts s c all → all ≡ rest ++ (e ∷ []) → n ≡ cond (minus e.needs s == 0) e.needs 0 → d ≡ bit_or c n → Looked posts s d rest
+look_on posts s c d n all rest e l split by more =
+    let k : Kept (rest ++ (e ∷ [])) = subst Kept split l.kept in
+    record {
+      kept = kept_first rest e k;
+      counts = λ m.
+          let t = l.counts m in
+          let u = ap (λ z. has z m) more ∙ has_union c n m in
+          let p = ap (λ es. has (in_turn (posts_of es) s) m) split ∙ ap (λ ps. has (in_turn ps s) m) (posts_more rest e) in
+          let z = has_none m in
+          ⊎_elim
+          (λ h.
+          let n = counts_by_needs (posts_of rest) e.post e.needs (kept_last rest e k).1 s (eqb-true _ _ h) (notes_of_posts rest e k) m in
+          let v = ap (λ z. has z m) (by ∙ cond-true _ _ _ h) in
+          grind (arith, nat_tests, t, u, p, n, v))
+          (λ h.
+          let n = ap (λ z. has z m) (counts_without_needs (posts_of rest) e.post e.needs (kept_last rest e k).1 s h) in
+          let v = ap (λ z. has z m) (by ∙ cond-false _ _ _ h) in
+          grind (arith, nat_tests, t, u, p, n, v, z))
+          (cases_Bool (minus e.needs s == 0));
+    }
 
 pub all_looked : (posts : List Post) (s c : ℕ) (rest : List Entry) → Looked posts s c rest → length rest ≡ 0 → c ≡ in_turn posts s
 all_looked posts s c [] l n = same_sets c (in_turn posts s) (λ m. let t = l.counts m in let z = has_none m in grind (arith, nat_tests, t, z))

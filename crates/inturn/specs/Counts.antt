@@ -12,10 +12,6 @@ use Rattle.notes.proofs.Bits.{has_none, has_added, same_sets}
 use Rattle.inturn.specs.declared.post.Post.{Post}
 use Rattle.inturn.specs.Turns.{post_of, post_at, all_held, counts, counted_of, in_turn}
 
--- One post more, as the loop goes.
-pub counted_more : (posts : List Post) (s k n r : ℕ) → n ≡ counted_of posts s k → r ≡ cond (counts posts s k) (added n (post_at posts k).note) n → r ≡ counted_of posts s (k + 1)
-counted_more posts s k n r e f = let q : suc k ≡ k + 1 = omega arith in f ∙ ap (λ z. cond (counts posts s k) (added z (post_at posts k).note) z) e ∙ ap (counted_of posts s) q
-
 -- What the first posts of a table pass, by their places.
 passes_below : {X : Type 0} (test : X → Bool) (xs : List X) (d : X) (n : ℕ) → list_all test (take n xs) ≡ true → (j : ℕ) → j < length xs → j < n → test (slice_index_or xs j d) ≡ true
 passes_below test [] d n h j l o = absurd (omega arith)

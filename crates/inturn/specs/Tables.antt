@@ -1,13 +1,17 @@
 -- The table agrees with the posters below.
-use Rattle.std.proofs.Common.{◌≡◌, ℕ, ◌+◌, ◌<◌, true, false, cond, eqb, ltb, ◌⊎◌, List, [], ◌∷◌, ◌++◌, length, is_some, Some, None, Option, sym, refl, ap, ◌∙◌, subst, inl, inr, ⊎_elim, arith}
+use Rattle.std.proofs.Common.{◌≡◌, ℕ, ◌<◌, true, false, cond, eqb, ltb, ◌⊎◌, List, [], ◌∷◌, ◌++◌, length, is_some, Some, None, Option, sym, refl, ap, ◌∙◌, subst, inl, inr, ⊎_elim, arith}
 use Rattle.std.proofs.lemmas.List.{get_or_append_left, get_or_push, length_push}
-use Rattle.std.proofs.lemmas.Bool.{cases_eq, eq-eqb, cond-true, cond-false, both_ways, ne_eqb, lt-ltb}
-use Rattle.notes.specs.Sets.{has}
+use Rattle.std.proofs.lemmas.Bool.{cases_eq, eq-eqb, cond-true, cond-false, both_ways, ne_eqb, lt-ltb, or_left, cond_both}
+use Rattle.std.proofs.lemmas.Bool.Decides.{nat_tests}
+use Rattle.std.proofs.lemmas.List.Folds.{list_all-append}
+use Rattle.std.specs.Prelude.{◌==◌, ◌||◌, not}
+use Rattle.notes.specs.Sets.{has, added}
+use Rattle.notes.proofs.Bits.{has_added}
 use Rattle.notes.proofs.Counting.{pigeonhole}
 use Rattle.inturn.specs.declared.post.Post.{Post}
-use Rattle.inturn.specs.Turns.{post_of, post_at, in_turn, written}
+use Rattle.inturn.specs.Turns.{post_of, post_at, all_held, in_turn, written}
 use Rattle.inturn.specs.Layers.{Agrees}
-use Rattle.inturn.specs.Counts.{counted_place, place_counted, clear_each, clear_all, same_notes}
+use Rattle.inturn.specs.Counts.{in_turn_more, in_turn_push}
 
 pub agrees_none : (poster : ℕ → Option ℕ) → ((m : ℕ) → poster m ≡ None) → Agrees poster []
 agrees_none poster none =
@@ -80,41 +84,13 @@ module _ (posts : List Post) (p m : ℕ) where
   -- What counted goes on to count.
   pub in_turn_kept : (s t : ℕ) → ((k : ℕ) → has s k ≡ true → has t k ≡ true) → (k : ℕ) → has (in_turn posts s) k ≡ true → has (in_turn more t) k ≡ true
   in_turn_kept s t f k h =
-      let n : length more ≡ length posts + 1 = length_push posts (post_of p m) in
-      let c = counted_place posts s (length posts) k h in
-      let i = c.place in
-      let x = c.below in
-      place_counted more t (length more) k
-      (record {
-        place = i;
-        below = omega arith;
-        note = ap (λ z. z.note) (old_place i x) ∙ c.note;
-        small = c.small;
-        counts = clear_all more t i (λ j l o e.
-            let y : j < length posts = omega arith in
-            ap (λ z. has t z.note) (old_place j y) ∙ f _ (clear_each posts s i c.counts j y o (sym (ap (λ z. z.card) (old_place j y)) ∙ e ∙ ap (λ z. z.card) (old_place i x))));
-      })
+      let still = in_turn_more posts s t f k h in
+      ap (λ n. has n k) (in_turn_push posts (post_of p m) t)
+      ∙ cond_both (all_held more t p) (added (in_turn posts t) m) (in_turn posts t) (λ n. has n k ≡ true) (λ _. has_added (in_turn posts t) m k ∙ or_left _ _ still) (λ _. still)
 
   -- A note that is not handed counts for nothing, and keeps back nothing.
   pub in_turn_new : (s : ℕ) → has s m ≡ false → in_turn more s ≡ in_turn posts s
   in_turn_new s lacks =
-      let n : length more ≡ length posts + 1 = length_push posts (post_of p m) in
-      same_notes _ _
-      (λ k h.
-      let c = counted_place more s (length more) k h in
-      let i = c.place in
-      let each = clear_each more s i c.counts in
-      ⊎_elim
-      (λ x.
-      place_counted posts s (length posts) k
-      (record {
-        place = i;
-        below = x;
-        note = sym (ap (λ z. z.note) (old_place i x)) ∙ c.note;
-        small = c.small;
-        counts = clear_all posts s i (λ j l o e.
-            ap (λ z. has s z.note) (sym (old_place j l)) ∙ each j (omega arith) o (ap (λ z. z.card) (old_place j l) ∙ e ∙ sym (ap (λ z. z.card) (old_place i x))));
-      }))
-      (λ x. absurd (both_ways (has s m) lacks (ap (λ z. has s z.note) (sym (ap (post_at more) x ∙ new_place)) ∙ each i c.below (omega arith) refl)))
-      (old_or_new i c.below))
-      (in_turn_kept s s (λ _ h. h))
+      let t = list_all-append (λ x. not (x.card == p) || has s x.note) posts (post_of p m ∷ []) in
+      let q = eq-eqb p p refl in
+      in_turn_push posts (post_of p m) s ∙ cond-false (all_held more s p) _ _ (grind (arith, nat_tests, t, q, lacks))

@@ -1,3 +1,6 @@
+ghost use Rattle.std.specs.Prelude.{◌≡◌, if◌then◌else◌, ◌==◌};
+ghost use Rattle.notes.specs.Sets.{minus};
+
 use crate::post::Post;
 use notes::set::NoteSet;
 
@@ -6,4 +9,17 @@ use notes::set::NoteSet;
 pub(crate) struct Entry {
     pub(crate) post: Post,
     pub(crate) needs: NoteSet,
+}
+
+impl Entry {
+    // The notes that count by this post where those of the set are handed: all that it needs, or none.
+    pub(crate) fn counted_in(&self, handed: NoteSet) -> NoteSet
+        ensures { result ≡ (if minus self.now.needs handed == 0 then self.now.needs else 0) }
+    {
+        if self.needs.without(handed).is_empty() {
+            self.needs
+        } else {
+            NoteSet::empty()
+        }
+    }
 }

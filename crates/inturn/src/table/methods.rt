@@ -44,9 +44,9 @@ impl Table {
         posted
     }
 
-    // The notes that count where those of the set are handed. What counts of a card is all that its last such post needs,
-    // so the last posts are looked at first, until no note is left that could count.
-    #[tactic(auto, using(crate::proofs::Needs::none_looked, crate::proofs::Needs::look_counts, crate::proofs::Needs::look_passes, crate::proofs::Needs::all_looked, crate::proofs::Needs::enough_looked))]
+    // The notes that count where those of the set are handed. The last posts are looked at first, since by the last that counts
+    // of a card all of its earlier ones count too; and none more, once all that is handed counts.
+    #[tactic(auto, using(crate::proofs::Needs::enough_looked))]
     pub(crate) fn in_turn(&self, handed: NoteSet) -> NoteSet
         ensures { result ≡ in_turn self.now handed }
     {
@@ -55,9 +55,7 @@ impl Table {
             if counted == handed {
                 break;
             }
-            if entry.needs.without(handed).is_empty() {
-                counted = counted.union(entry.needs);
-            }
+            counted = counted.union(entry.counted_in(handed));
         }
         counted
     }
