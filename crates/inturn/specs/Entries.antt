@@ -8,8 +8,11 @@ abbrev pub posts_of : List Entry → List Post
 posts_of entries = map (λ e. e.post) entries
 
 -- The entry at place i of a table; what stands past the table's end is never asked for.
+abbrev pub no_entry : Entry
+no_entry = record { post = post_of 0 0; needs = 0 }
+
 abbrev pub entry_at : List Entry → ℕ → Entry
-entry_at entries i = slice_index_or entries i (record { post = post_of 0 0; needs = 0 })
+entry_at entries i = slice_index_or entries i no_entry
 
 -- Beside each post are the notes that its card had posted once it was made, and each is the number of a note.
 pub record Kept (entries : List Entry) : Type 0 where

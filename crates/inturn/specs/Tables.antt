@@ -1,6 +1,6 @@
 -- The table agrees with the posters below.
-use Rattle.std.proofs.Common.{◌≡◌, ℕ, ◌<◌, true, false, cond, eqb, ltb, ◌⊎◌, List, [], ◌∷◌, ◌++◌, length, is_some, Some, None, Option, sym, refl, ap, ◌∙◌, subst, inl, inr, ⊎_elim, arith}
-use Rattle.std.proofs.lemmas.List.{get_or_append_left, get_or_push, length_push}
+use Rattle.std.proofs.Common.{◌≡◌, ℕ, ◌<◌, true, false, cond, eqb, ltb, List, [], ◌∷◌, ◌++◌, length, is_some, Some, None, Option, sym, refl, ap, ◌∙◌, ⊎_elim, arith}
+use Rattle.std.proofs.lemmas.List.{length_push}
 use Rattle.std.proofs.lemmas.Bool.{cases_eq, eq-eqb, cond-true, cond-false, both_ways, ne_eqb, lt-ltb, or_left, cond_both}
 use Rattle.std.proofs.lemmas.Bool.Decides.{nat_tests}
 use Rattle.std.proofs.lemmas.List.Folds.{list_all-append}
@@ -10,6 +10,7 @@ use Rattle.notes.proofs.Bits.{has_added}
 use Rattle.notes.proofs.Counting.{pigeonhole}
 use Rattle.inturn.specs.declared.post.Post.{Post}
 use Rattle.inturn.specs.Turns.{post_of, post_at, all_held, in_turn, written}
+use Rattle.inturn.specs.Pushed.{old_place, new_place, each_place}
 use Rattle.inturn.specs.Layers.{Agrees}
 use Rattle.inturn.specs.Counts.{in_turn_more, in_turn_push}
 
@@ -24,19 +25,13 @@ agrees_none poster none =
 pub agrees_same : (posts : List Post) (poster after : ℕ → Option ℕ) → ((m : ℕ) → after m ≡ poster m) → Agrees poster posts → Agrees after posts
 agrees_same posts poster after same a = record { listed = λ m p e. a.listed m p (sym (same m) ∙ e); posted = λ i l. same _ ∙ a.posted i l; once = a.once }
 
--- The places of a table with a post more.
+-- A table with a post more.
 module _ (posts : List Post) (p m : ℕ) where
   abbrev more : List Post
   more = posts ++ (post_of p m ∷ [])
 
-  old_place : (i : ℕ) → i < length posts → post_at more i ≡ post_at posts i
-  old_place i l = get_or_append_left posts (post_of p m ∷ []) (post_of 0 0) i l
-
-  new_place : post_at more (length posts) ≡ post_of p m
-  new_place = get_or_push posts (post_of p m) (post_of 0 0) (length posts) refl
-
-  old_or_new : (i : ℕ) → i < length more → (i < length posts) ⊎ (i ≡ length posts)
-  old_or_new i l = let n = length_push posts (post_of p m) in ⊎_elim (λ e. inr e) (λ e. inl (omega (arith, e))) (cases_eq i (length posts))
+  abbrev each_post : (P : ℕ → Post → Type 0) → ((i : ℕ) → i < length posts → P i (post_at posts i)) → P (length posts) (post_of p m) → (i : ℕ) → i < length more → P i (post_at more i)
+  each_post = each_place posts (post_of p m) (post_of 0 0)
 
   -- The new note was not posted before.
   module _ (poster : ℕ → Option ℕ) (a : Agrees poster posts) (free : is_some (poster m) ≡ false) where
@@ -44,12 +39,10 @@ module _ (posts : List Post) (p m : ℕ) where
     other_note i l e = both_ways (is_some (poster m)) free (ap (λ k. is_some (poster k)) (sym e) ∙ ap is_some (a.posted i l))
 
     still_once : (i j : ℕ) → i < length more → j < length more → (post_at more i).note ≡ (post_at more j).note → i ≡ j
-    still_once i j k l e =
-        ⊎_elim
-        (λ x. ⊎_elim (λ y. a.once i j x y (sym (ap (λ z. z.note) (old_place i x)) ∙ e ∙ ap (λ z. z.note) (old_place j y)))
-        (λ y. absurd (other_note i x (sym (ap (λ z. z.note) (old_place i x)) ∙ e ∙ ap (λ z. (post_at more z).note) y ∙ ap (λ z. z.note) new_place))) (old_or_new j l))
-        (λ x. ⊎_elim (λ y. absurd (other_note j y (sym (ap (λ z. z.note) (old_place j y)) ∙ sym e ∙ ap (λ z. (post_at more z).note) x ∙ ap (λ z. z.note) new_place))) (λ y. x ∙ sym y) (old_or_new j l))
-        (old_or_new i k)
+    still_once i j k =
+        each_post (λ i x. (j : ℕ) → j < length more → x.note ≡ (post_at more j).note → i ≡ j)
+        (λ i k. each_post (λ j y. (post_at posts i).note ≡ y.note → i ≡ j) (λ j. a.once i j k) (λ e. absurd (other_note i k e)))
+        (each_post (λ j y. m ≡ y.note → length posts ≡ j) (λ j l e. absurd (other_note j l (sym e))) (λ _. refl)) i k j
 
     module _ (after : ℕ → Option ℕ) (stands : (j : ℕ) → after j ≡ cond (eqb j m) (Some p) (poster j)) where
       stands_other : (j : ℕ) → (j ≡ m → ⊥) → after j ≡ poster j
@@ -63,14 +56,10 @@ module _ (posts : List Post) (p m : ℕ) where
           record {
             listed = λ k q e.
                 ⊎_elim
-                (λ y. let s : p ≡ q = cc (stands_new, e, y) in (length posts, let n = length_push posts (post_of p m) in omega arith, new_place ∙ cc))
-                (λ y. let o = a.listed k q (sym (stands_other k y) ∙ e) in (o.0, let n = length_push posts (post_of p m) in let l = o.1 in omega arith, old_place o.0 o.1 ∙ o.2))
+                (λ y. let s : p ≡ q = cc (stands_new, e, y) in (length posts, let n = length_push posts (post_of p m) in omega arith, new_place posts (post_of p m) (post_of 0 0) ∙ cc))
+                (λ y. let o = a.listed k q (sym (stands_other k y) ∙ e) in (o.0, let n = length_push posts (post_of p m) in let l = o.1 in omega arith, old_place posts (post_of p m) (post_of 0 0) o.0 o.1 ∙ o.2))
                 (cases_eq k m);
-            posted = λ i l.
-                ⊎_elim
-                (λ x. subst (λ z. after z.note ≡ Some z.card) (sym (old_place i x)) (stands_other (post_at posts i).note (other_note i x) ∙ a.posted i x))
-                (λ x. subst (λ z. after z.note ≡ Some z.card) (sym (ap (post_at more) x ∙ new_place)) stands_new)
-                (old_or_new i l);
+            posted = each_post (λ _ x. after x.note ≡ Some x.card) (λ i l. stands_other _ (other_note i l) ∙ a.posted i l) stands_new;
             once = still_once;
           }
 

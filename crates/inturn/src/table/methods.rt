@@ -30,7 +30,7 @@ impl Table {
         }
     }
 
-    // The notes that the card has posted: what the last of its posts needs.
+    // The notes that the card has posted. A `for`, whose invariant is a line; a fold takes an induction.
     #[tactic(auto, using(crate::proofs::Needs::needs_none, crate::proofs::Needs::needs_next, crate::proofs::Needs::needs_all))]
     fn posted_by(&self, card: usize) -> NoteSet
         ensures { Needs self.now card result }
@@ -38,7 +38,7 @@ impl Table {
         let mut posted = NoteSet::empty();
         for entry in &self.entries {
             if entry.post.card == card {
-                posted = entry.needs;
+                posted = posted.with(entry.post.note);
             }
         }
         posted
@@ -46,7 +46,7 @@ impl Table {
 
     // The notes that count where those of the set are handed. The last posts are looked at first, since by the last that counts
     // of a card all of its earlier ones count too; and none more, once all that is handed counts.
-    #[tactic(auto, using(crate::proofs::Needs::enough_looked))]
+    #[tactic(auto, using(crate::proofs::Looks::enough_looked))]
     pub(crate) fn in_turn(&self, handed: NoteSet) -> NoteSet
         ensures { result ≡ in_turn self.now handed }
     {

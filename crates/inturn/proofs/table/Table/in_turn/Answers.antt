@@ -1,4 +1,4 @@
-use Rattle.inturn.proofs.Needs.{none_looked, look_on, all_looked}
+use Rattle.inturn.proofs.Looks.{none_looked, look_on, all_looked}
 use Rattle.inturn.proofs.table.Table.in_turn.Goals as goal
 
 pub loop-entry-init : goal.loop-entry-init

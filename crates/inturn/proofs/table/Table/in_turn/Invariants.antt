@@ -1,6 +1,6 @@
 use Rattle.std.specs.Slice.Iter.{iter_rest}
 use Rattle.std.specs.Iterator.Adapters.{rev_source}
-use Rattle.inturn.proofs.Needs.{Looked}
+use Rattle.inturn.proofs.Looks.{Looked}
 use Rattle.inturn.proofs.table.Table.in_turn.Given as goal
 
 abbrev pub invariant-loop-entry : goal.invariant-loop-entry
