@@ -11,11 +11,11 @@ use Rattle.inturn.specs.declared.table.entry.Entry.{Entry}
 use Rattle.inturn.specs.Turns.{post_of, post_at, counts, Needs, in_turn}
 use Rattle.inturn.specs.Entries.{posts_of, Kept}
 use Rattle.inturn.specs.Pushed.{new_place}
-use Rattle.inturn.proofs.Needs.{none_missing, missing_none, posts_more, kept_first, last_needs, small_notes}
+use Rattle.inturn.proofs.Needs.{none_missing, missing_none, posts_more, kept_first, last_needs, notes_below_32}
 use Rattle.inturn.specs.Counts.{same_notes, Counted, clear_each, clear_all, earlier_counts, last_counts, in_turn_push, counted_held}
 
--- By the last post count all that it needs, or nothing.
-module _ (posts : List Post) (x : Post) (n : ℕ) (needs : Needs (posts ++ (x ∷ [])) x.card n) (s : ℕ) (small : (i : ℕ) → i < length (posts ++ (x ∷ [])) → (post_at (posts ++ (x ∷ [])) i).note < 32) where
+-- By the last post, which needs n, all of n counts or nothing.
+module _ (posts : List Post) (x : Post) (n s : ℕ) (needs : Needs (posts ++ (x ∷ [])) x.card n) (small : (i : ℕ) → i < length (posts ++ (x ∷ [])) → (post_at (posts ++ (x ∷ [])) i).note < 32) where
   abbrev longer : List Post
   longer = posts ++ (x ∷ [])
 
@@ -28,7 +28,8 @@ module _ (posts : List Post) (x : Post) (n : ℕ) (needs : Needs (posts ++ (x �
   needs_itself : has n x.note ≡ true
   needs_itself =
       let l = length_push posts x in
-      ap (λ y. has n y.note) (sym (new_place posts x (post_of 0 0))) ∙ clear_each longer n (length posts) (last_counted n (none_missing n n (λ _ h. h))) (length posts) (omega arith) (omega arith) refl
+      ap (λ y. has n y.note) (sym (new_place posts x (post_of 0 0)))
+      ∙ clear_each longer n (length posts) (last_counted n (none_missing n n (λ _ h. h))) (length posts) (omega arith) (omega arith) refl
 
   needs_count : minus n s ≡ 0 → minus n counted ≡ 0
   needs_count h =
@@ -63,7 +64,7 @@ pub record Looked (posts : List Post) (handed counted : ℕ) (rest : List Entry)
 
 pub none_looked : (entries rest : List Entry) (posts : List Post) (s c : ℕ) → Kept entries → posts_of entries ≡ posts → rest ≡ entries → c ≡ 0 → Looked posts s c rest
 none_looked entries rest posts s c k p r z =
-    subst (λ l. Looked l s c rest) p (subst (Looked (posts_of entries) s c) (sym r) (record { kept = k; counts = λ m. sym (ap (λ b. b || has (in_turn (posts_of entries) s) m) (ap (λ n. has n m) z ∙ has_none m)) }))
+    rw (r, sym p) (record { kept = k; counts = λ m. sym (ap (λ b. b || has (in_turn (posts_of entries) s) m) (ap (λ n. has n m) z ∙ has_none m)) })
 
 -- One entry more, as the loop goes.
 pub look_on : (posts : List Post) (s c d n : ℕ) (all rest : List Entry) (e : Entry) → Looked posts s c all → all ≡ rest ++ (e ∷ []) → n ≡ cond (minus e.needs s == 0) e.needs 0 → d ≡ bit_or c n → Looked posts s d rest
@@ -76,10 +77,12 @@ look_on posts s c d n all rest e l split by joined =
           let u = ap (λ z. has z m) joined ∙ has_union c n m in
           let p = ap (λ es. has (in_turn (posts_of es) s) m) split ∙ ap (λ ps. has (in_turn ps s) m) (posts_more rest e) in
           let q : has (in_turn (posts_of rest ++ (e.post ∷ [])) s) m ≡ (has n m || has (in_turn (posts_of rest) s) m) =
-          sym (ap (λ z. has z m || has (in_turn (posts_of rest) s) m) by ∙ sym (counts_by_last (posts_of rest) e.post e.needs (last_needs rest e k) s (small_notes rest e k) m)) in
+          counts_by_last (posts_of rest) e.post e.needs s (last_needs rest e k) (notes_below_32 rest e k) m ∙ ap (λ z. has z m || has (in_turn (posts_of rest) s) m) (sym by)
+          in
           grind (arith, nat_tests, t, u, p, q);
     }
 
+-- At the table's beginning.
 pub all_looked : (posts : List Post) (s c : ℕ) (rest : List Entry) → Looked posts s c rest → length rest ≡ 0 → c ≡ in_turn posts s
 all_looked posts s c [] l n = same_sets c (in_turn posts s) (λ m. let t = l.counts m in let z = has_none m in grind (arith, nat_tests, t, z))
 all_looked posts s c (x ∷ xs) l n = absurd (omega arith)

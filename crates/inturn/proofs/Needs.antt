@@ -25,7 +25,7 @@ none_missing n s f =
 pub missing_none : (n s m : ℕ) → minus n s ≡ 0 → has n m ≡ true → has s m ≡ true
 missing_none n s m e h = let t = has_minus n s m in let z = ap (λ k. has k m) e ∙ has_none m in grind (arith, nat_tests, h, t, z)
 
--- What a card has posted among the first posts of a table, as the loop goes.
+-- No posts, no notes.
 pub needs_none : (p n : ℕ) → n ≡ 0 → Needs [] p n
 needs_none p n z = record { held = λ s. eq-eqb (minus n s) 0 (none_missing n s (λ m h. absurd (both_ways _ (ap (λ k. has k m) z ∙ has_none m) h))) }
 
@@ -54,6 +54,7 @@ needs_more posts p m n l f =
           grind (arith, nat_tests, t, q, a, b, g);
     }
 
+-- What a card has posted among the first posts of a table, as the loop goes.
 pub needs_next : (entries items : List Entry) (posts : List Post) (k p n r : ℕ) (e : Entry) → Kept entries → posts_of entries ≡ posts → items ≡ entries → k < length items
     → e ≡ get_or items k e → Needs (take k posts) p n → r ≡ cond (e.post.card == p) (added n e.post.note) n → Needs (take (k + 1) posts) p r
 needs_next entries items posts k p n r e kept view same l at f g =
@@ -65,11 +66,18 @@ needs_next entries items posts k p n r e kept view same l at f g =
     let u : take (k + 1) posts ≡ take k posts ++ (e.post ∷ []) = take_more posts k (post_of 0 0) (omega arith) ∙ ap (λ x. take k posts ++ (x ∷ [])) z in
     let small : e.post.note < 32 = subst (λ x. x.post.note < 32) t ((subst Kept (sym same) kept).notes k l) in
     rw (u, g)
-    (cond_both (e.post.card == p) (added n e.post.note) n (Needs (take k posts ++ (e.post ∷ [])) p) (λ y. let o = eqb-true e.post.card p y in subst (λ c. Needs (take k posts ++ (e.post ∷ [])) c (added n e.post.note)) o (needs_more (take k posts) e.post.card e.post.note n small (subst (λ c. Needs (take k posts) c n) (sym o) f))) (λ y. needs_other (take k posts) e.post p n y f))
+    (cond_both (e.post.card == p) (added n e.post.note) n (Needs (take k posts ++ (e.post ∷ [])) p)
+    (λ y.
+    let o = eqb-true e.post.card p y in
+    subst (λ c. Needs (take k posts ++ (e.post ∷ [])) c (added n e.post.note)) o (needs_more (take k posts) e.post.card e.post.note n small (subst (λ c. Needs (take k posts) c n) (sym o) f)))
+    (λ y. needs_other (take k posts) e.post p n y f))
 
 pub needs_all : (entries items : List Entry) (posts : List Post) (k p n : ℕ) → posts_of entries ≡ posts → items ≡ entries → length items ≤ k → Needs (take k posts) p n → Needs posts p n
 needs_all entries items posts k p n view same l f =
-    let q = length-map entries (λ x. x.post) in let u = ap length view in let v = ap length same in subst (λ x. Needs x p n) (take_all k posts (omega arith)) f
+    let q = length-map entries (λ x. x.post) in
+    let u = ap length view in
+    let v = ap length same in
+    subst (λ ps. Needs ps p n) (take_all k posts (omega arith)) f
 
 -- A table with an entry more.
 module _ (entries : List Entry) (e : Entry) where
@@ -106,10 +114,13 @@ module _ (entries : List Entry) (e : Entry) where
         }
 
     pub last_needs : Needs longer e.post.card e.needs
-    last_needs = let n = length_push entries e in subst (λ x. Needs longer x.post.card x.needs) (new_place entries e no_entry) (subst (λ l. Needs l (entry_at more (length entries)).post.card (entry_at more (length entries)).needs) posts_all (k.needed (length entries) (omega arith)))
+    last_needs =
+        let n = length_push entries e in
+        let last = entry_at more (length entries) in
+        subst (λ x. Needs longer x.post.card x.needs) (new_place entries e no_entry) (subst (λ ps. Needs ps last.post.card last.needs) posts_all (k.needed (length entries) (omega arith)))
 
-    pub small_notes : (i : ℕ) → i < length longer → (post_at longer i).note < 32
-    small_notes i l =
+    pub notes_below_32 : (i : ℕ) → i < length longer → (post_at longer i).note < 32
+    notes_below_32 i l =
         let n = length_push entries e in
         let o = length_push (posts_of entries) e.post in
         let q = length-map entries (λ x. x.post) in

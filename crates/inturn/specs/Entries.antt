@@ -4,6 +4,7 @@ use Rattle.inturn.specs.declared.post.Post.{Post}
 use Rattle.inturn.specs.declared.table.entry.Entry.{Entry}
 use Rattle.inturn.specs.Turns.{post_of, Needs}
 
+-- The posts of a table.
 abbrev pub posts_of : List Entry → List Post
 posts_of entries = map (λ e. e.post) entries
 
@@ -14,7 +15,7 @@ no_entry = record { post = post_of 0 0; needs = 0 }
 abbrev pub entry_at : List Entry → ℕ → Entry
 entry_at entries i = slice_index_or entries i no_entry
 
--- Beside each post are the notes that its card had posted once it was made, and each is the number of a note.
+-- Each post is of a note below 32, and needs the notes that its card had posted up to it.
 pub record Kept (entries : List Entry) : Type 0 where
   pub notes : (i : ℕ) → i < length entries → (entry_at entries i).post.note < 32
   pub needed : (i : ℕ) → i < length entries → Needs (take (i + 1) (posts_of entries)) (entry_at entries i).post.card (entry_at entries i).needs
