@@ -1037,7 +1037,13 @@ def _(right):
 # In turn. The layer's handed set is made from the posts, their posters and what is handed below.
 
 
-@reading("in-turn: all counts that is handed below", r, "held_in_turn", "inturn/handed_as_below")
+@reading(
+    "in-turn: all counts that is handed below",
+    r,
+    "held_in_turn",
+    "inturn/handed_as_below",
+    "inturn/needs_without_the_earlier_posts",
+)
 def _(right):
     return lambda order, poster, below: set(below)
 
@@ -1067,6 +1073,34 @@ def _(right):
             if m not in below:
                 blocked.add(poster[m])
         return out
+
+    return held
+
+
+@reading("in-turn: the last post of each card does not count", r, "held_in_turn", "inturn/needs_without_the_note_itself")
+def _(right):
+    def held(order, poster, below):
+        last = {poster[m]: m for m in order}
+        return right(order, poster, below) - set(last.values())
+
+    return held
+
+
+@reading("in-turn: all posts of a card count once one of them is handed", r, "held_in_turn", "inturn/any_of_the_needs_handed")
+def _(right):
+    def held(order, poster, below):
+        begun = {poster[m] for m in order if m in below}
+        return {m for m in order if poster[m] in begun}
+
+    return held
+
+
+@reading("in-turn: of all that counts, only the posts of the last one's card do", r, "held_in_turn", "inturn/looks_end_where_one_counts")
+def _(right):
+    def held(order, poster, below):
+        out = right(order, poster, below)
+        last = [poster[m] for m in order if m in out][-1:]
+        return {m for m in out if poster[m] in last}
 
     return held
 

@@ -27,9 +27,16 @@ module _ {S : Type 0} (b : Behaviour S) (made : S → Type 0) (bound : ℕ) (mea
   after_made s [] g = g
   after_made s (c ∷ cs) g = after_made (next b s c) cs (next_made s c g)
 
-below_cond : {S : Type 0} (t : Bool) (x y : Layered S) → (cond t x y).below ≡ cond t x.below y.below
-below_cond true x y = refl
-below_cond false x y = refl
+-- What is read of a choice is chosen of what is read.
+of_cond : {X Y : Type 0} (f : X → Y) (t : Bool) (x y : X) → f (cond t x y) ≡ cond t (f x) (f y)
+of_cond f true x y = refl
+of_cond f false x y = refl
+
+-- If each call makes the same of two broadcasts, so do all in turn.
+module _ {S T : Type 0} (b : Behaviour S) (d : Behaviour T) (f : S → T) (same : (s : S) (c : Call) → f (next b s c) ≡ next d (f s) c) where
+  after_same : (s : S) (calls : List Call) → f (after b s calls) ≡ after d (f s) calls
+  after_same s [] = refl
+  after_same s (c ∷ cs) = after_same (next b s c) cs ∙ ap (λ z. after d z cs) (same s c)
 
 -- One layer: all but the handed sets is as below.
 module _ {S : Type 0} (b : Behaviour S) where
@@ -41,15 +48,11 @@ module _ {S : Type 0} (b : Behaviour S) where
   answer_below s (suspect q p) = refl
 
   next_below : (s : Layered S) (c : Call) → (next (in_turn_over b) s c).below ≡ next b s.below c
-  next_below s (post p m) = below_cond _ ((in_turn_over b).posting s p m) s
-  next_below s (carry i) = below_cond _ ((in_turn_over b).carrying s i) s
-  next_below s (lose i) = below_cond _ ((in_turn_over b).losing s i) s
-  next_below s (crash p) = below_cond _ ((in_turn_over b).crashing s p) s
-  next_below s (suspect q p) = below_cond _ ((in_turn_over b).suspecting s q p) s
-
-  after_below : (s : Layered S) (calls : List Call) → (after (in_turn_over b) s calls).below ≡ after b s.below calls
-  after_below s [] = refl
-  after_below s (c ∷ cs) = after_below (next (in_turn_over b) s c) cs ∙ ap (λ z. after b z cs) (next_below s c)
+  next_below s (post p m) = of_cond (λ z. z.below) _ ((in_turn_over b).posting s p m) s
+  next_below s (carry i) = of_cond (λ z. z.below) _ ((in_turn_over b).carrying s i) s
+  next_below s (lose i) = of_cond (λ z. z.below) _ ((in_turn_over b).losing s i) s
+  next_below s (crash p) = of_cond (λ z. z.below) _ ((in_turn_over b).crashing s p) s
+  next_below s (suspect q p) = of_cond (λ z. z.below) _ ((in_turn_over b).suspecting s q p) s
 
   answers_below : (s : Layered S) (calls : List Call) → answers (in_turn_over b) s calls ≡ answers b s.below calls
   answers_below s [] = refl
@@ -90,7 +93,7 @@ module _ {S : Type 0} (b : Behaviour S) (made : S → Type 0) (bound : ℕ) (mea
   as_below =
       record {
         same_answers = λ n calls. answers_below b ((in_turn_over b).start n) calls;
-        same_below = λ n calls. after_below b ((in_turn_over b).start n) calls;
+        same_below = λ n calls. after_same (in_turn_over b) b (λ z. z.below) (next_below b) ((in_turn_over b).start n) calls;
         posts_in_order = λ n calls. after_posts ((in_turn_over b).start n) calls ((means_in_turn b made bound means).new_made n);
       }
 
@@ -98,21 +101,13 @@ module _ {S : Type 0} (b : Behaviour S) (made : S → Type 0) (bound : ℕ) (mea
 abbrev doubled : {S : Type 0} → Layered S → Layered (Layered S)
 doubled s = layered s s.posts
 
-doubled_cond : {S : Type 0} (t : Bool) (x y : Layered S) → cond t (doubled x) (doubled y) ≡ doubled (cond t x y)
-doubled_cond true x y = refl
-doubled_cond false x y = refl
-
 module _ {S : Type 0} (b : Behaviour S) where
-  next_doubled : (s : Layered S) (c : Call) → next (in_turn_over (in_turn_over b)) (doubled s) c ≡ doubled (next (in_turn_over b) s c)
-  next_doubled s (post p m) = doubled_cond _ ((in_turn_over b).posting s p m) s
-  next_doubled s (carry i) = doubled_cond _ ((in_turn_over b).carrying s i) s
-  next_doubled s (lose i) = doubled_cond _ ((in_turn_over b).losing s i) s
-  next_doubled s (crash p) = doubled_cond _ ((in_turn_over b).crashing s p) s
-  next_doubled s (suspect q p) = doubled_cond _ ((in_turn_over b).suspecting s q p) s
-
-  after_doubled : (s : Layered S) (calls : List Call) → after (in_turn_over (in_turn_over b)) (doubled s) calls ≡ doubled (after (in_turn_over b) s calls)
-  after_doubled s [] = refl
-  after_doubled s (c ∷ cs) = ap (λ z. after (in_turn_over (in_turn_over b)) z cs) (next_doubled s c) ∙ after_doubled (next (in_turn_over b) s c) cs
+  next_doubled : (s : Layered S) (c : Call) → doubled (next (in_turn_over b) s c) ≡ next (in_turn_over (in_turn_over b)) (doubled s) c
+  next_doubled s (post p m) = of_cond doubled _ ((in_turn_over b).posting s p m) s
+  next_doubled s (carry i) = of_cond doubled _ ((in_turn_over b).carrying s i) s
+  next_doubled s (lose i) = of_cond doubled _ ((in_turn_over b).losing s i) s
+  next_doubled s (crash p) = of_cond doubled _ ((in_turn_over b).crashing s p) s
+  next_doubled s (suspect q p) = of_cond doubled _ ((in_turn_over b).suspecting s q p) s
 
 module _ {S : Type 0} (b : Behaviour S) (made : S → Type 0) (bound : ℕ) (means : Means b made bound) where
   view_doubled : (s : Layered S) → MadeOver b made bound means s → (in_turn_over (in_turn_over b)).view (doubled s) ≡ (in_turn_over b).view s
@@ -127,6 +122,6 @@ module _ {S : Type 0} (b : Behaviour S) (made : S → Type 0) (bound : ℕ) (mea
       record {
         same_answers = λ n calls. answers_below (in_turn_over b) ((in_turn_over (in_turn_over b)).start n) calls;
         same_view = λ n calls.
-            ap (in_turn_over (in_turn_over b)).view (after_doubled b ((in_turn_over b).start n) calls)
+            ap (in_turn_over (in_turn_over b)).view (sym (after_same (in_turn_over b) (in_turn_over (in_turn_over b)) doubled (next_doubled b) ((in_turn_over b).start n) calls))
             ∙ view_doubled (after (in_turn_over b) ((in_turn_over b).start n) calls) (after_made (in_turn_over b) (MadeOver b made bound means) bound once ((in_turn_over b).start n) calls (once.new_made n));
       }

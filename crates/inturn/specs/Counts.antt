@@ -1,7 +1,8 @@
 -- Which notes count.
-use Rattle.std.proofs.Common.{◌≡◌, ℕ, zero, suc, ◌+◌, ◌^◌, ◌<◌, ◌≤◌, Bool, true, cond, not, ◌||◌, ltb, List, [], ◌∷◌, take, length, sym, refl, ap, ◌∙◌, ⊎_elim, arith, pow_pos}
+use Rattle.std.proofs.Common.{◌≡◌, ℕ, zero, suc, ◌+◌, ◌^◌, ◌<◌, ◌≤◌, Bool, true, cond, not, ◌||◌, ltb, List, [], ◌∷◌, ◌++◌, take, length, sym, refl, ap, ◌∙◌, ⊎_elim, arith, pow_pos}
 use Rattle.std.specs.Prelude.{◌==◌, slice_index_or}
 use Rattle.std.specs.List.{list_all}
+use Rattle.std.proofs.lemmas.List.{length_push, take_all, take-append-le}
 use lib.Bits.{or_lt}
 use lib.Pow.{pow-lt}
 use Rattle.std.proofs.lemmas.Bool.{cases_Bool, cases_eq, or_cases, or_left, or_right, and_parts, and_from, eqb-true, eq-eqb, cond-true, cond-false, cond_both, both_ways, not-true, not_from_false, lt-ltb, ltb-true}
@@ -9,11 +10,8 @@ use Rattle.std.proofs.lemmas.Bool.Decides.{nat_tests}
 use Rattle.notes.specs.Sets.{has, added}
 use Rattle.notes.proofs.Bits.{has_none, has_added, same_sets}
 use Rattle.inturn.specs.declared.post.Post.{Post}
-use Rattle.inturn.specs.Turns.{post_of, post_at, counts, counted_of, in_turn}
-
--- One post more, as the loop goes.
-pub counted_more : (posts : List Post) (s k n r : ℕ) → n ≡ counted_of posts s k → r ≡ cond (counts posts s k) (added n (post_at posts k).note) n → r ≡ counted_of posts s (k + 1)
-counted_more posts s k n r e f = let q : suc k ≡ k + 1 = omega arith in f ∙ ap (λ z. cond (counts posts s k) (added z (post_at posts k).note) z) e ∙ ap (counted_of posts s) q
+use Rattle.inturn.specs.Pushed.{old_place, new_place}
+use Rattle.inturn.specs.Turns.{post_of, post_at, all_held, counts, counted_of, in_turn}
 
 -- What the first posts of a table pass, by their places.
 passes_below : {X : Type 0} (test : X → Bool) (xs : List X) (d : X) (n : ℕ) → list_all test (take n xs) ≡ true → (j : ℕ) → j < length xs → j < n → test (slice_index_or xs j d) ≡ true
@@ -117,6 +115,27 @@ in_turn_again posts s small =
 
 pub in_turn_none : (posts : List Post) → in_turn posts 0 ≡ 0
 in_turn_none posts = same_notes _ _ (counted_held posts 0) (λ m h. absurd (both_ways _ (has_none m) h))
+
+-- The last post of a table counts where all posts of its card are in the set.
+pub last_counts : (posts : List Post) (x : Post) (s : ℕ) → counts (posts ++ (x ∷ [])) s (length posts) ≡ all_held (posts ++ (x ∷ [])) s x.card
+last_counts posts x s =
+    let n = length_push posts x in
+    ap (λ l. all_held l s (post_at (posts ++ (x ∷ [])) (length posts)).card) (take_all (length posts + 1) (posts ++ (x ∷ [])) (omega arith))
+    ∙ ap (λ y. all_held (posts ++ (x ∷ [])) s y.card) (new_place posts x (post_of 0 0))
+
+-- A post more makes no difference to the earlier ones.
+counted_before : (posts : List Post) (x : Post) (s k : ℕ) → k ≤ length posts → counted_of (posts ++ (x ∷ [])) s k ≡ counted_of posts s k
+counted_before posts x s zero l = refl
+counted_before posts x s (suc k) l =
+    let p : post_at (posts ++ (x ∷ [])) k ≡ post_at posts k = old_place posts x (post_of 0 0) k (omega arith) in
+    let c : counts (posts ++ (x ∷ [])) s k ≡ counts posts s k = ap (λ l. all_held l s (post_at (posts ++ (x ∷ [])) k).card) (take-append-le (k + 1) posts (x ∷ []) (omega arith)) ∙ ap (λ y. all_held (take (k + 1) posts) s y.card) p in
+    rw (c, p, counted_before posts x s k (omega arith)) refl
+
+pub in_turn_push : (posts : List Post) (x : Post) (s : ℕ) → in_turn (posts ++ (x ∷ [])) s ≡ cond (all_held (posts ++ (x ∷ [])) s x.card) (added (in_turn posts s) x.note) (in_turn posts s)
+in_turn_push posts x s =
+    let n : length (posts ++ (x ∷ [])) ≡ suc (length posts) = length_push posts x ∙ omega arith in
+    let p : post_at (posts ++ (x ∷ [])) (length posts) ≡ x = new_place posts x (post_of 0 0) in
+    ap (counted_of (posts ++ (x ∷ [])) s) n ∙ rw (last_counts posts x s, p, counted_before posts x s (length posts) (omega arith)) refl
 
 -- Sets of 32 bits.
 counted_fits : (posts : List Post) (s k : ℕ) → counted_of posts s k < 2 ^ 32

@@ -1,13 +1,18 @@
 -- The table agrees with the posters below.
-use Rattle.std.proofs.Common.{◌≡◌, ℕ, ◌+◌, ◌<◌, true, false, cond, eqb, ltb, ◌⊎◌, List, [], ◌∷◌, ◌++◌, length, is_some, Some, None, Option, sym, refl, ap, ◌∙◌, subst, inl, inr, ⊎_elim, arith}
-use Rattle.std.proofs.lemmas.List.{get_or_append_left, get_or_push, length_push}
-use Rattle.std.proofs.lemmas.Bool.{cases_eq, eq-eqb, cond-true, cond-false, both_ways, ne_eqb, lt-ltb}
-use Rattle.notes.specs.Sets.{has}
+use Rattle.std.proofs.Common.{◌≡◌, ℕ, ◌<◌, true, false, cond, eqb, ltb, List, [], ◌∷◌, ◌++◌, length, is_some, Some, None, Option, sym, refl, ap, ◌∙◌, ⊎_elim, arith}
+use Rattle.std.proofs.lemmas.List.{length_push}
+use Rattle.std.proofs.lemmas.Bool.{cases_eq, eq-eqb, cond-true, cond-false, both_ways, ne_eqb, lt-ltb, or_left, cond_both}
+use Rattle.std.proofs.lemmas.Bool.Decides.{nat_tests}
+use Rattle.std.proofs.lemmas.List.Folds.{list_all-append}
+use Rattle.std.specs.Prelude.{◌==◌, ◌||◌, not}
+use Rattle.notes.specs.Sets.{has, added}
+use Rattle.notes.proofs.Bits.{has_added}
 use Rattle.notes.proofs.Counting.{pigeonhole}
 use Rattle.inturn.specs.declared.post.Post.{Post}
-use Rattle.inturn.specs.Turns.{post_of, post_at, in_turn, written}
+use Rattle.inturn.specs.Turns.{post_of, post_at, all_held, in_turn, written}
+use Rattle.inturn.specs.Pushed.{old_place, new_place, each_place}
 use Rattle.inturn.specs.Layers.{Agrees}
-use Rattle.inturn.specs.Counts.{counted_place, place_counted, clear_each, clear_all, same_notes}
+use Rattle.inturn.specs.Counts.{in_turn_more, in_turn_push}
 
 pub agrees_none : (poster : ℕ → Option ℕ) → ((m : ℕ) → poster m ≡ None) → Agrees poster []
 agrees_none poster none =
@@ -20,19 +25,13 @@ agrees_none poster none =
 pub agrees_same : (posts : List Post) (poster after : ℕ → Option ℕ) → ((m : ℕ) → after m ≡ poster m) → Agrees poster posts → Agrees after posts
 agrees_same posts poster after same a = record { listed = λ m p e. a.listed m p (sym (same m) ∙ e); posted = λ i l. same _ ∙ a.posted i l; once = a.once }
 
--- The places of a table with a post more.
+-- A table with a post more.
 module _ (posts : List Post) (p m : ℕ) where
   abbrev more : List Post
   more = posts ++ (post_of p m ∷ [])
 
-  old_place : (i : ℕ) → i < length posts → post_at more i ≡ post_at posts i
-  old_place i l = get_or_append_left posts (post_of p m ∷ []) (post_of 0 0) i l
-
-  new_place : post_at more (length posts) ≡ post_of p m
-  new_place = get_or_push posts (post_of p m) (post_of 0 0) (length posts) refl
-
-  old_or_new : (i : ℕ) → i < length more → (i < length posts) ⊎ (i ≡ length posts)
-  old_or_new i l = let n = length_push posts (post_of p m) in ⊎_elim (λ e. inr e) (λ e. inl (omega (arith, e))) (cases_eq i (length posts))
+  abbrev each_post : (P : ℕ → Post → Type 0) → ((i : ℕ) → i < length posts → P i (post_at posts i)) → P (length posts) (post_of p m) → (i : ℕ) → i < length more → P i (post_at more i)
+  each_post = each_place posts (post_of p m) (post_of 0 0)
 
   -- The new note was not posted before.
   module _ (poster : ℕ → Option ℕ) (a : Agrees poster posts) (free : is_some (poster m) ≡ false) where
@@ -40,12 +39,10 @@ module _ (posts : List Post) (p m : ℕ) where
     other_note i l e = both_ways (is_some (poster m)) free (ap (λ k. is_some (poster k)) (sym e) ∙ ap is_some (a.posted i l))
 
     still_once : (i j : ℕ) → i < length more → j < length more → (post_at more i).note ≡ (post_at more j).note → i ≡ j
-    still_once i j k l e =
-        ⊎_elim
-        (λ x. ⊎_elim (λ y. a.once i j x y (sym (ap (λ z. z.note) (old_place i x)) ∙ e ∙ ap (λ z. z.note) (old_place j y)))
-        (λ y. absurd (other_note i x (sym (ap (λ z. z.note) (old_place i x)) ∙ e ∙ ap (λ z. (post_at more z).note) y ∙ ap (λ z. z.note) new_place))) (old_or_new j l))
-        (λ x. ⊎_elim (λ y. absurd (other_note j y (sym (ap (λ z. z.note) (old_place j y)) ∙ sym e ∙ ap (λ z. (post_at more z).note) x ∙ ap (λ z. z.note) new_place))) (λ y. x ∙ sym y) (old_or_new j l))
-        (old_or_new i k)
+    still_once i j k =
+        each_post (λ i x. (j : ℕ) → j < length more → x.note ≡ (post_at more j).note → i ≡ j)
+        (λ i k. each_post (λ j y. (post_at posts i).note ≡ y.note → i ≡ j) (λ j. a.once i j k) (λ e. absurd (other_note i k e)))
+        (each_post (λ j y. m ≡ y.note → length posts ≡ j) (λ j l e. absurd (other_note j l (sym e))) (λ _. refl)) i k j
 
     module _ (after : ℕ → Option ℕ) (stands : (j : ℕ) → after j ≡ cond (eqb j m) (Some p) (poster j)) where
       stands_other : (j : ℕ) → (j ≡ m → ⊥) → after j ≡ poster j
@@ -59,14 +56,10 @@ module _ (posts : List Post) (p m : ℕ) where
           record {
             listed = λ k q e.
                 ⊎_elim
-                (λ y. let s : p ≡ q = cc (stands_new, e, y) in (length posts, let n = length_push posts (post_of p m) in omega arith, new_place ∙ cc))
-                (λ y. let o = a.listed k q (sym (stands_other k y) ∙ e) in (o.0, let n = length_push posts (post_of p m) in let l = o.1 in omega arith, old_place o.0 o.1 ∙ o.2))
+                (λ y. let s : p ≡ q = cc (stands_new, e, y) in (length posts, let n = length_push posts (post_of p m) in omega arith, new_place posts (post_of p m) (post_of 0 0) ∙ cc))
+                (λ y. let o = a.listed k q (sym (stands_other k y) ∙ e) in (o.0, let n = length_push posts (post_of p m) in let l = o.1 in omega arith, old_place posts (post_of p m) (post_of 0 0) o.0 o.1 ∙ o.2))
                 (cases_eq k m);
-            posted = λ i l.
-                ⊎_elim
-                (λ x. subst (λ z. after z.note ≡ Some z.card) (sym (old_place i x)) (stands_other (post_at posts i).note (other_note i x) ∙ a.posted i x))
-                (λ x. subst (λ z. after z.note ≡ Some z.card) (sym (ap (post_at more) x ∙ new_place)) stands_new)
-                (old_or_new i l);
+            posted = each_post (λ _ x. after x.note ≡ Some x.card) (λ i l. stands_other _ (other_note i l) ∙ a.posted i l) stands_new;
             once = still_once;
           }
 
@@ -80,41 +73,13 @@ module _ (posts : List Post) (p m : ℕ) where
   -- What counted goes on to count.
   pub in_turn_kept : (s t : ℕ) → ((k : ℕ) → has s k ≡ true → has t k ≡ true) → (k : ℕ) → has (in_turn posts s) k ≡ true → has (in_turn more t) k ≡ true
   in_turn_kept s t f k h =
-      let n : length more ≡ length posts + 1 = length_push posts (post_of p m) in
-      let c = counted_place posts s (length posts) k h in
-      let i = c.place in
-      let x = c.below in
-      place_counted more t (length more) k
-      (record {
-        place = i;
-        below = omega arith;
-        note = ap (λ z. z.note) (old_place i x) ∙ c.note;
-        small = c.small;
-        counts = clear_all more t i (λ j l o e.
-            let y : j < length posts = omega arith in
-            ap (λ z. has t z.note) (old_place j y) ∙ f _ (clear_each posts s i c.counts j y o (sym (ap (λ z. z.card) (old_place j y)) ∙ e ∙ ap (λ z. z.card) (old_place i x))));
-      })
+      let still = in_turn_more posts s t f k h in
+      ap (λ n. has n k) (in_turn_push posts (post_of p m) t)
+      ∙ cond_both (all_held more t p) (added (in_turn posts t) m) (in_turn posts t) (λ n. has n k ≡ true) (λ _. has_added (in_turn posts t) m k ∙ or_left _ _ still) (λ _. still)
 
   -- A note that is not handed counts for nothing, and keeps back nothing.
   pub in_turn_new : (s : ℕ) → has s m ≡ false → in_turn more s ≡ in_turn posts s
   in_turn_new s lacks =
-      let n : length more ≡ length posts + 1 = length_push posts (post_of p m) in
-      same_notes _ _
-      (λ k h.
-      let c = counted_place more s (length more) k h in
-      let i = c.place in
-      let each = clear_each more s i c.counts in
-      ⊎_elim
-      (λ x.
-      place_counted posts s (length posts) k
-      (record {
-        place = i;
-        below = x;
-        note = sym (ap (λ z. z.note) (old_place i x)) ∙ c.note;
-        small = c.small;
-        counts = clear_all posts s i (λ j l o e.
-            ap (λ z. has s z.note) (sym (old_place j l)) ∙ each j (omega arith) o (ap (λ z. z.card) (old_place j l) ∙ e ∙ sym (ap (λ z. z.card) (old_place i x))));
-      }))
-      (λ x. absurd (both_ways (has s m) lacks (ap (λ z. has s z.note) (sym (ap (post_at more) x ∙ new_place)) ∙ each i c.below (omega arith) refl)))
-      (old_or_new i c.below))
-      (in_turn_kept s s (λ _ h. h))
+      let t = list_all-append (λ x. not (x.card == p) || has s x.note) posts (post_of p m ∷ []) in
+      let q = eq-eqb p p refl in
+      in_turn_push posts (post_of p m) s ∙ cond-false (all_held more s p) _ _ (grind (arith, nat_tests, t, q, lacks))

@@ -1,7 +1,7 @@
 -- Which notes of a set count where each card's posts are taken in the order of posting.
-use Rattle.std.specs.Prelude.{ℕ, zero, suc, ◌+◌, Bool, cond, not, ◌||◌, List, [], ◌∷◌, ◌++◌, take, length, ◌==◌, nat_lt, slice_index_or}
+use Rattle.std.specs.Prelude.{◌≡◌, ℕ, zero, suc, ◌+◌, Bool, cond, not, ◌||◌, List, [], ◌∷◌, ◌++◌, take, length, ◌==◌, nat_lt, slice_index_or}
 use Rattle.std.specs.List.{list_all}
-use Rattle.notes.specs.Sets.{has, added}
+use Rattle.notes.specs.Sets.{has, added, minus}
 use Rattle.inturn.specs.declared.post.Post.{Post}
 
 -- The post of note m by card p.
@@ -19,6 +19,10 @@ written posts p m = cond (nat_lt (length posts) 32) (posts ++ (post_of p m ∷ [
 -- Whether s holds the notes of all posts that card p made among these.
 abbrev pub all_held : List Post → ℕ → ℕ → Bool
 all_held posts s p = list_all (λ x. not (x.card == p) || has s x.note) posts
+
+-- The set n is of the notes that card p posted among these: all of them are in s exactly where nothing of n is missing there.
+pub record Needs (posts : List Post) (p n : ℕ) : Type 0 where
+  pub held : (s : ℕ) → (minus n s == 0) ≡ all_held posts s p
 
 -- Whether the post at place i counts: it and all earlier posts of its card are in s.
 abbrev pub counts : List Post → ℕ → ℕ → Bool
