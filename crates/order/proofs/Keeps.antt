@@ -1,5 +1,5 @@
 -- A new carrier is consistent, and each call keeps it so.
-use Rattle.std.proofs.Common.{◌≡◌, ℕ, suc, ◌+◌, ◌*◌, ◌<◌, ◌≤◌, false, ◌&&◌, ◌||◌, eqb, ◌⊎◌, List, is_some, Some, None, Option, sym, refl, ap, ◌∙◌, subst, inl, inr, mul-le-mul_right, suc-mul, add-mul, arith, Ok}
+use Rattle.std.proofs.Common.{◌≡◌, ℕ, suc, ◌+◌, ◌*◌, ◌<◌, ◌≤◌, false, ◌&&◌, ◌||◌, eqb, ◌⊎◌, List, is_some, Some, None, sym, refl, ap, ◌∙◌, subst, inl, inr, mul-le-mul_right, suc-mul, add-mul, arith, Ok}
 use Rattle.std.proofs.lemmas.Bool.{cases_eq, eq-eqb, ne_eqb, and_from, and_left, and_right, cond-true, cond-false}
 use Rattle.std.proofs.lemmas.Option.{none-some, same_Some}
 use Rattle.notes.specs.Sets.{total}
@@ -215,11 +215,13 @@ module _ {B C book : ℕ} {batch : ℕ → List ℕ} (b : BroadcastView) (c c' :
       bump =
           let was = ap (λ x. o.instance p * (C + 2) + one_if x * (C + 1)) first in
           let is = at p ∙ ap (λ x. o.instance p * (C + 2) + one_if x * (C + 1)) put in
-          omega
-          (arith, total_trade (spent C c o.instance) (spent C c' o'.instance) b.net.cards p (C + 1) 0
-          (omega (arith, (propose_accepted c (o.instance p) p s ok).0, I.net.cards))
-          (λ q _ ne. omega (arith, other q ne))
-          (omega (arith, was, is)))
+          omega (
+            arith,
+            total_trade (spent C c o.instance) (spent C c' o'.instance) b.net.cards p (C + 1) 0
+                (omega (arith, (propose_accepted c (o.instance p) p s ok).0, I.net.cards))
+                (λ q _ ne. omega (arith, other q ne))
+                (omega (arith, was, is)),
+          )
 
 module _ {B C book : ℕ} {batch : ℕ → List ℕ} (b : BroadcastView) (c : ConsensusView) (o o' : Ledger) (I : Consistent B C book batch b c o) where
   keep_take : consensus.Lawful c → (p s : ℕ) → Runs b.net p → c.decision (o.instance p) p ≡ Some s → Taken batch o o' p s → Consistent B C book batch b c o'
@@ -246,10 +248,12 @@ module _ {B C book : ℕ} {batch : ℕ → List ℕ} (b : BroadcastView) (c : Co
           let w = some_held (c.proposal (o.instance p) p) (LC.decided_have_proposed (o.instance p) p (ap is_some e)) in
           let was = ap (λ x. o.instance p * (C + 2) + one_if x * (C + 1)) w.1 in
           let is = ap (λ i. i * (C + 2) + one_if (c.proposal i p) * (C + 1)) t.instance in
-          omega
-          (arith, total_trade (spent C c o.instance) (spent C c o'.instance) b.net.cards p 1 0 r.card
-          (λ q _ ne. omega (arith, other q ne))
-          (omega (arith, was, is, suc-mul (o.instance p) (C + 2))))
+          omega (
+            arith,
+            total_trade (spent C c o.instance) (spent C c o'.instance) b.net.cards p 1 0 r.card
+                (λ q _ ne. omega (arith, other q ne))
+                (omega (arith, was, is, suc-mul (o.instance p) (C + 2))),
+          )
 
 pub step_keeps : {B C book : ℕ} {batch : ℕ → List ℕ} {b b' : BroadcastView} {c c' : ConsensusView} {o o' : Ledger}
     → consensus.Lawful c → Consistent B C book batch b c o → Step B C book batch b c o b' c' o' → Consistent B C book batch b' c' o'

@@ -35,9 +35,11 @@ posts_same v w e = total_le (λ m. one_if (w.poster m)) (λ m. one_if (v.poster 
 posts_one : (v w : BroadcastView) (p m : ℕ) → m < 32 → ((j : ℕ) → w.poster j ≡ cond (eqb j m) (Some p) (v.poster j)) → posts w ≤ posts v + 1
 unfolding posts
 posts_one v w p m l e =
-    omega
-    (arith, total_trade (λ m. one_if (w.poster m)) (λ m. one_if (v.poster m)) 32 m 0 1 l
-    (λ i _ ne. omega (arith, ap one_if (e i ∙ cond-false (eqb i m) (Some p) (v.poster i) (ne_eqb i m ne)))) (omega (arith, one_most (w.poster m))))
+    omega (
+      arith,
+      total_trade (λ m. one_if (w.poster m)) (λ m. one_if (v.poster m)) 32 m 0 1 l
+          (λ i _ ne. omega (arith, ap one_if (e i ∙ cond-false (eqb i m) (Some p) (v.poster i) (ne_eqb i m ne)))) (omega (arith, one_most (w.poster m))),
+    )
 
 pub record Fits {X Y : Type 0} (b : Broadcasts X) (c : Consensuses Y) (n : ℕ) (t : Tally) (s : Carrying b c) : Type 0 where
   pub good : Good b c s
