@@ -8,7 +8,7 @@ use Rattle.notes.specs.Sets.{has, added, minus}
 use Rattle.notes.proofs.Bits.{has_added, has_minus}
 use Rattle.cards.specs.Cards.{suspects_in}
 use Rattle.tables.specs.Tables.{set_in}
-use Rattle.cards.proofs.Lists.{row_written}
+use Rattle.parts.proofs.Lists.{row_written}
 use Rattle.allack.specs.AllAck.{AllAckState, common, complete}
 use Rattle.allack.specs.Counts.{counted_in, with_count}
 

@@ -1,26 +1,25 @@
 -- `new` and the calls make all-acks that hold together.
-use Rattle.std.specs.Prelude.{◌≡◌, ℕ, ◌<◌, Bool, true, false, ◌&&◌, ◌||◌, List, replicate, Some, ◌==◌, ◌≢◌, refl}
+use Rattle.std.specs.Prelude.{◌≡◌, ℕ, ◌<◌, true, false, ◌&&◌, ◌||◌, List, replicate, Some, ◌==◌, ◌≢◌, refl}
 use Rattle.std.proofs.Common.{sym, ap, subst, ◌∙◌, ⊎_elim, arith, length-set}
 use borrow.Author.Tests.{clash}
 use Rattle.std.specs.List.{slice_get}
-use Rattle.std.proofs.lemmas.Bool.{both_ways, cases_Bool, cases_eq, or_cases, or_left, or_right, or_parts, and_parts, and_from, and_left, eq-eqb, ne_eqb, eqb-true}
+use Rattle.std.proofs.lemmas.Bool.{both_ways, cases_Bool, cases_eq, or_cases, or_left, or_right, and_parts, and_from, and_left, eq-eqb, ne_eqb, eqb-true}
 use Rattle.notes.specs.Sets.{has, added}
 use Rattle.notes.proofs.Bits.{has_none}
-use Rattle.cards.specs.Cards.{CardState, crashed_in, suspects_in, SoundCards}
+use Rattle.cards.specs.Cards.{CardState, crashed_in, suspects_in, Running, SoundCards}
 use Rattle.tables.specs.Tables.{set_in}
 use Rattle.wire.specs.declared.Item.{Item}
 use Rattle.tables.proofs.Changes.{posted_below, noted_all, noted_all_others_stay, noted_all_fits}
-use Rattle.cards.proofs.Lists.{same_all, same_rows, new_row, rows_kept}
-use Rattle.cards.proofs.Nets.{crash_more, suspect_more}
+use Rattle.parts.proofs.Lists.{same_all, same_rows, new_row, rows_kept}
+use Rattle.cards.proofs.Nets.{suspect_more, up_before}
 use Rattle.spread.specs.Spread as spread
 use Rattle.spread.specs.Spread.{SpreadState}
-use Rattle.spread.specs.Made.{SoundSpread, MadeSpread}
+use Rattle.spread.specs.Made.{SoundSpread, Delivers, MadeSpread}
 use Rattle.spread.proofs.Keeps as below
-use Rattle.spread.proofs.Keeps.{Running, Delivers}
 use Rattle.spread.proofs.Nets.{meet_others_stay}
 use Rattle.allack.specs.Counts.{new_counts, counted_in, with_count}
 use Rattle.allack.specs.AllAck.{AllAckState, new_all_ack, spread_to, count_on, complete, hand_on, post_on, counting, lose_on, crash_on, suspect_on}
-use Rattle.allack.specs.Made.{SoundAllAck, Complete, MadeAllAck}
+use Rattle.allack.specs.Made.{SoundAllAck, Complete, counted_by, MadeAllAck}
 use Rattle.allack.specs.Completes.{counted_more, counted_others_stay, complete_parts, complete_from, complete_fits}
 
 pub new_made : (n : ℕ) → MadeAllAck (new_all_ack n)
@@ -41,7 +40,7 @@ new_made n =
         fits = λ p. let z : set_in (new_all_ack n).handed p ≡ 0 = same_all 6 p 0 in omega arith;
       };
       self_counted = λ p m h. absurd (unrelayed p m h);
-      due = λ p q m _ _ _ _ h. absurd (unrelayed p m h);
+      due = λ p q m _ _ h. absurd (unrelayed p m h);
       complete_handed = λ p m _ _ c. absurd (unrelayed p m c.relayed);
     }
 
@@ -98,7 +97,7 @@ module _ (x : AllAckState) (p q m : ℕ) (g : SoundAllAck x) (hp : p < x.spread.
 not_suspected : (c : CardState) (p q : ℕ) → SoundCards c → crashed_in c q ≡ false → suspects_in c p q ≡ false
 not_suspected c p q g u = ⊎_elim (λ t. absurd (both_ways _ u (g.suspected_crashed p q t))) (λ t. t) (cases_Bool (suspects_in c p q))
 
-module _ (x : AllAckState) (p : ℕ) (g : SoundAllAck x) (r : Running x.spread p) where
+module _ (x : AllAckState) (p : ℕ) (g : SoundAllAck x) (r : Running x.spread.cards p) where
   hand_more : (q k : ℕ) → has (set_in (hand_on x p).handed q) k ≡ (has (set_in x.handed q) k || (q == p && has (complete x p x.spread.cards.count) k))
   hand_more q k = noted_all x.handed p (complete x p x.spread.cards.count) q k (omega (arith, g.sets, r.0, g.below.whole.sound.few))
 
@@ -120,17 +119,13 @@ module _ (x : AllAckState) (p : ℕ) (g : SoundAllAck x) (r : Running x.spread p
         fits = λ q. noted_all_fits x.handed p (complete x p n) q (omega (arith, g.sets, r.0, g.below.whole.sound.few)) (complete_fits x p n (g.below.whole.fits p)) g.fits;
       }
 
--- Who has counted whom: the note has got from card p to card q when q has counted p.
-abbrev counted_by : List (List ℕ) → ℕ → ℕ → ℕ → Bool
-counted_by t p q m = has (counted_in t q p) m
-
-hand_made : (x : AllAckState) (p : ℕ) → SoundAllAck x → Running x.spread p → ((q m : ℕ) → has (set_in x.spread.relayed q) m ≡ true → has (counted_in x.counted q q) m ≡ true) → Delivers (counted_by x.counted) x.spread
-    → ((q m : ℕ) → (q ≢ p) → Running x.spread q → Complete x q m → has (set_in x.handed q) m ≡ true) → MadeAllAck (hand_on x p)
+hand_made : (x : AllAckState) (p : ℕ) → SoundAllAck x → Running x.spread.cards p → ((q m : ℕ) → has (set_in x.spread.relayed q) m ≡ true → has (counted_in x.counted q q) m ≡ true) → Delivers (counted_by x.counted) x.spread
+    → ((q m : ℕ) → (q ≢ p) → Running x.spread.cards q → Complete x q m → has (set_in x.handed q) m ≡ true) → MadeAllAck (hand_on x p)
 hand_made x p g r own d others =
     record {
       whole = hand_sound x p g r;
       self_counted = own;
-      due = λ a b k la lb ua ub. d a b k (la, ua) (lb, ub);
+      due = d;
       complete_handed = λ q k l u c.
           hand_more x p g r q k
           ∙ ⊎_elim
@@ -139,12 +134,9 @@ hand_made x p g r own d others =
           (cases_eq q p);
     }
 
-made_delivers : (x : AllAckState) → MadeAllAck x → Delivers (counted_by x.counted) x.spread
-made_delivers x g p q m rp rq = g.due p q m rp.0 rq.0 rp.1 rq.1
-
 -- A card meets a note, and counts: what the counts then are is `counted`.
 met_made : (x : AllAckState) (s : SpreadState) (p m : ℕ) (counted : List (List ℕ)) → MadeAllAck x → s.relayed ≡ x.spread.relayed → s.cards ≡ x.spread.cards
-    → SoundSpread s → Running s p → m < 32 → SoundAllAck (record { spread = spread.meet_on s p m; counted = counted; handed = x.handed })
+    → SoundSpread s → Running s.cards p → m < 32 → SoundAllAck (record { spread = spread.meet_on s p m; counted = counted; handed = x.handed })
     → ((a b k : ℕ) → has (counted_in x.counted a b) k ≡ true → has (counted_in counted a b) k ≡ true)
     → has (counted_in counted p p) m ≡ true
     → ((a b : ℕ) → (a ≢ p) → counted_in counted a b ≡ counted_in x.counted a b)
@@ -178,7 +170,7 @@ post_made x p m g l up j =
     (count_still y p p m ys l l j)
     (count_here y p p m ys l l j)
     (λ a b n. counted_others_stay x.counted p p m a b n)
-    (below.more_delivers (counted_by x.counted) s (counted_by (with_count x.counted p p m)) (λ a b k h. count_still y p p m ys l l j b a k h) (made_delivers x g))
+    (below.more_delivers (counted_by x.counted) s (counted_by (with_count x.counted p p m)) (λ a b k h. count_still y p p m ys l l j b a k h) g.due)
 
 pub receive_made : (x : AllAckState) (i : ℕ) (t : Item ℕ) → MadeAllAck x → slice_get x.spread.wire i ≡ Some t → MadeAllAck (counting (spread_to x (spread.meet_on (spread.without_item x.spread i) t.to t.load)) (Some t))
 receive_made x i t g e =
@@ -202,18 +194,17 @@ receive_made x i t g e =
     still
     (count_still w p t.from m ws u.card u.sender j p p m (count_here y p p m ys u.card u.card j))
     (λ a b n. counted_others_stay (with_count x.counted p p m) p t.from m a b n ∙ counted_others_stay x.counted p p m a b n)
-    (below.taken_delivers (counted_by x.counted) s (counted_by counted) i t e (λ a b k h. still b a k h) (count_here w p t.from m ws u.card u.sender j) (made_delivers x g))
+    (below.taken_delivers (counted_by x.counted) s (counted_by counted) i t e (λ a b k h. still b a k h) (count_here w p t.from m ws u.card u.sender j) g.due)
 
 -- A loss, a crash, a suspicion.
 
 pub lose_made : (x : AllAckState) (i : ℕ) (t : Item ℕ) → MadeAllAck x → slice_get x.spread.wire i ≡ Some t → crashed_in x.spread.cards t.from ≡ true → MadeAllAck (lose_on x i)
 lose_made x i t g e down =
     let s = spread.without_item x.spread i in
-    let d = below.lost_delivers (counted_by x.counted) x.spread i t e down (made_delivers x g) in
     record {
       whole = spread_sound x s g.whole (below.lose_made x.spread i t g.whole.below e down) refl (λ p m h. h) (λ p u. u);
       self_counted = g.self_counted;
-      due = λ p q m hp hq up uq. d p q m (hp, up) (hq, uq);
+      due = below.lost_delivers (counted_by x.counted) x.spread i t e down g.due;
       complete_handed = λ p m l u c. g.complete_handed p m l u (record { relayed = c.relayed; counted = c.counted });
     }
 
@@ -221,12 +212,11 @@ pub crash_made : (x : AllAckState) (p : ℕ) → MadeAllAck x → p < x.spread.c
 crash_made x p g l =
     let c = x.spread.cards in
     let sound = g.whole.below.whole.sound in
-    let up : (q : ℕ) → crashed_in (spread.crash_on x.spread p).cards q ≡ false → crashed_in c q ≡ false = λ q u. (or_parts (q == p) (crashed_in c q) (sym (crash_more c p q sound l) ∙ u)).1 in
-    let d = below.crash_delivers (counted_by x.counted) x.spread p g.whole.below.whole l (made_delivers x g) in
+    let up : (q : ℕ) → crashed_in (spread.crash_on x.spread p).cards q ≡ false → crashed_in c q ≡ false = λ q u. (up_before c p q sound l u).1 in
     record {
       whole = spread_sound x (spread.crash_on x.spread p) g.whole (below.crash_made x.spread p g.whole.below l) refl (λ q m h. h) up;
       self_counted = g.self_counted;
-      due = λ a b m ha hb ua ub. d a b m (ha, ua) (hb, ub);
+      due = below.crash_delivers (counted_by x.counted) x.spread p g.whole.below.whole l g.due;
       complete_handed = λ q m i u k. g.complete_handed q m i (up q u) (record { relayed = k.relayed; counted = k.counted });
     }
 
@@ -237,7 +227,7 @@ suspect_made x q p g hq hp up down =
     (spread_sound x s g.whole (below.suspect_made x.spread q p g.whole.below hq hp down) refl (λ a m h. h) (λ a u. u))
     (hq, up)
     g.self_counted
-    (made_delivers x g)
+    g.due
     (λ a m n ra c. g.complete_handed a m ra.0 ra.1
     (record {
       relayed = c.relayed;

@@ -1,8 +1,9 @@
 -- Each call of all-ack, from what it makes of the state to what the interface says of it.
 use Rattle.std.specs.Prelude.{◌≡◌, ℕ, ◌<◌, true, false, length, Some, None, refl, Ok}
 use Rattle.std.proofs.Common.{sym, ap, ◌∙◌, ⊎_elim, arith}
+use Rattle.std.specs.Cmp.Derive.{one_truth}
 use borrow.Author.Tests.{clash}
-use Rattle.std.specs.List.{slice_get}
+use Rattle.std.specs.List.{slice_get, list_any}
 use Rattle.std.proofs.lemmas.Bool.{both_ways, cases_Bool, or_cases, or_left}
 use Rattle.notes.specs.Sets.{has}
 use Rattle.notes.proofs.Bits.{same_sets}
@@ -12,10 +13,10 @@ use Rattle.parts.specs.Broadcasting.{Started, HandedMore, Posted, Carried, Lost,
 use Rattle.parts.proofs.Accepted.{post_accepted, crash_accepted, suspect_accepted}
 use Rattle.cards.specs.Cards.{crashed_in}
 use Rattle.tables.specs.Tables.{set_in}
-use Rattle.wire.specs.Wires.{any_of}
 use Rattle.wire.specs.declared.Item.{Item}
-use Rattle.tables.proofs.Changes.{posted_below, noted_all, noted_all_others_stay, nothing_left, bool_same}
-use Rattle.cards.proofs.Lists.{written, same_all}
+use Rattle.wire.proofs.Wires.{nothing_left}
+use Rattle.tables.proofs.Changes.{posted_below, noted_all, noted_all_others_stay}
+use Rattle.parts.proofs.Lists.{get_or-set, same_all}
 use Rattle.cards.proofs.Nets.{same_cards}
 use Rattle.wire.proofs.Taken.{carried_item, lost_item}
 use Rattle.spread.specs.Spread as spread
@@ -49,7 +50,7 @@ post_means x p m g h =
     record {
       same_cards = same_cards x.spread.cards _ _ _ _;
       work_rises_by_bound = post_net x.spread p m s f.0 f.1 f.2;
-      post_stands = λ j. written x.spread.posters m j (Some p) None (omega (arith, s.notes, f.2));
+      post_stands = λ j. get_or-set x.spread.posters m j (Some p) None (omega (arith, s.notes, f.2));
       handed_more = hand_hands _ x p refl (omega (arith, g.whole.sets, f.0, s.sound.few)) f.1;
     }
 
@@ -93,7 +94,7 @@ module _ (x : AllAckState) (g : MadeAllAck x) (quiet : Quiet (seen x).net) where
   -- A running card has counted each running card that has relayed a note.
   has_counted : (p q m : ℕ) → Runs (seen x).net p → Runs (seen x).net q → has (set_in x.spread.relayed p) m ≡ true → has (counted_in x.counted q p) m ≡ true
   has_counted p q m rp rq h =
-      ⊎_elim (λ a. a) (λ b. absurd (clash (ap (any_of (brings p q m)) (sym (nothing_left x.spread.wire quiet.empty)) ∙ b))) (or_cases _ _ (g.due p q m rp.card rq.card rp.up rq.up h))
+      ⊎_elim (λ a. a) (λ b. absurd (clash (ap (list_any (brings p q m)) (sym (nothing_left x.spread.wire quiet.empty)) ∙ b))) (or_cases _ _ (g.due p q m (rp.card, rp.up) (rq.card, rq.up) h))
 
   -- A note that every running card has relayed is handed to each.
   all_relayed : (q m : ℕ) → Runs (seen x).net q → ((r : ℕ) → Runs (seen x).net r → has (set_in x.spread.relayed r) m ≡ true) → has (set_in x.handed q) m ≡ true
@@ -123,6 +124,6 @@ lawful x g =
       only_posted_notes_handed = λ p m h. s.relayed_posted p m (g.whole.handed_relayed p m h);
       sets_fit_32_bits = g.whole.fits;
       no_card_no_set = g.whole.outside;
-      quiet_sets_equal = λ quiet p q rp rq. same_sets _ _ (λ m. bool_same _ _ (λ h. quiet_agrees x g quiet p q m h rq) (λ h. quiet_agrees x g quiet q p m h rp));
+      quiet_sets_equal = λ quiet p q rp rq. same_sets _ _ (λ m. one_truth _ _ (λ h. quiet_agrees x g quiet p q m h rq) (λ h. quiet_agrees x g quiet q p m h rp));
       quiet_sets_full = λ quiet p q m rp rq e. quiet_full x g quiet p q m rp rq (g.whole.below.poster_relayed m p e);
     }

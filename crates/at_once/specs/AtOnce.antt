@@ -12,30 +12,30 @@ pub record AtOnceState : Type 0 where
 
 -- What is seen.
 
-abbrev pub cards_in : AtOnceState → ℕ
-cards_in x = x.cards.count
+abbrev pub at_once_cards : AtOnceState → ℕ
+at_once_cards x = x.cards.count
 
-abbrev pub has_crashed : AtOnceState → ℕ → Bool
-has_crashed x = crashed_in x.cards
+abbrev pub at_once_crashed : AtOnceState → ℕ → Bool
+at_once_crashed x = crashed_in x.cards
 
-abbrev pub suspecting : AtOnceState → ℕ → ℕ → Bool
-suspecting x = suspects_in x.cards
+abbrev pub at_once_suspects : AtOnceState → ℕ → ℕ → Bool
+at_once_suspects x = suspects_in x.cards
 
 -- Nothing is ever under way, so nothing is left to be carried.
-abbrev pub no_wire : AtOnceState → List ℕ
-no_wire x = []
+abbrev pub at_once_wire : AtOnceState → List ℕ
+at_once_wire x = []
 
-abbrev pub no_work : AtOnceState → ℕ
-no_work x = 0
+abbrev pub at_once_work : AtOnceState → ℕ
+at_once_work x = 0
 
-abbrev pub posted_by : AtOnceState → ℕ → Option ℕ
-posted_by x = poster_in x.posters
+abbrev pub at_once_poster : AtOnceState → ℕ → Option ℕ
+at_once_poster x = poster_in x.posters
 
-abbrev pub handed_in : AtOnceState → ℕ → ℕ
-handed_in x = set_in x.handed
+abbrev pub at_once_handed : AtOnceState → ℕ → ℕ
+at_once_handed x = set_in x.handed
 
 abbrev pub seen : AtOnceState → BroadcastView
-seen = broadcast_view cards_in has_crashed suspecting no_wire no_work posted_by handed_in
+seen = broadcast_view at_once_cards at_once_crashed at_once_suspects at_once_wire at_once_work at_once_poster at_once_handed
 
 -- What is made.
 

@@ -1,8 +1,9 @@
 -- `new` and the calls make such broadcasts, and mean what the interface says.
 use Rattle.std.specs.Prelude.{◌≡◌, ℕ, ◌<◌, true, not, ◌&&◌, ◌||◌, [], length, is_some, Some, None, ◌==◌, nat_lt, slice_set, refl, Ok}
 use Rattle.std.proofs.Common.{sym, ap, ◌∙◌, ⊎_elim, arith, length-set}
+use Rattle.std.specs.Cmp.Derive.{one_truth}
 use borrow.Author.Tests.{clash}
-use Rattle.std.proofs.lemmas.Bool.{or_cases, or_left, or_right, or_parts, and_parts, and_from, lt-ltb, not_from_false}
+use Rattle.std.proofs.lemmas.Bool.{or_cases, or_left, or_right, and_parts, and_from, lt-ltb, not_from_false}
 use Rattle.notes.specs.Sets.{has}
 use Rattle.notes.proofs.Bits.{has_none, same_sets}
 use Rattle.parts.specs.Views.{Runs, Quiet}
@@ -11,10 +12,10 @@ use Rattle.parts.specs.Refusals.{post_answer, carry_answer, lose_answer, crash_a
 use Rattle.parts.specs.Broadcasting.{Started, Posted, Crashed, Suspected, Lawful, UniformAgreement}
 use Rattle.parts.proofs.Accepted.{post_accepted, carry_accepted, lose_accepted, crash_accepted, suspect_accepted}
 use Rattle.cards.specs.Cards.{crashed_in, AllSuspected}
-use Rattle.cards.proofs.Lists.{written, same_all}
-use Rattle.cards.proofs.Nets.{new_sound, new_net, same_cards, crash_sound, crash_more, net_crashed, suspect_sound, net_suspected, lawful_net, quiet_when, suspected_when}
+use Rattle.parts.proofs.Lists.{get_or-set, same_all}
+use Rattle.cards.proofs.Nets.{new_sound, new_net, same_cards, crash_sound, net_crashed, suspect_sound, net_suspected, lawful_net, quiet_when, suspected_when, up_before}
 use Rattle.tables.specs.Tables.{poster_in, set_in}
-use Rattle.tables.proofs.Changes.{posted_more, posted_below, poster_each, bool_same}
+use Rattle.tables.proofs.Changes.{posted_more, posted_below, poster_each}
 use Rattle.at_once.specs.AtOnce.{AtOnceState, seen, new_at_once, hand_out, post_on, crash_on, suspect_on}
 use Rattle.at_once.specs.Made.{MadeAtOnce}
 use Rattle.at_once.specs.Changes.{length_out, handed_more, others_stay, out_fits}
@@ -69,7 +70,7 @@ post_means x p m g h =
     record {
       same_cards = same_cards c _ _ _ _;
       work_rises_by_bound = omega arith;
-      post_stands = λ j. written x.posters m j (Some p) None (omega (arith, g.notes, f.2));
+      post_stands = λ j. get_or-set x.posters m j (Some p) None (omega (arith, g.notes, f.2));
       handed_more = record {
         nothing_taken_out = λ q j e. handed_more c m x.handed c.count q j g.sets g.sound.few f.2 ∙ or_left _ _ e;
         crashed_sets_stay = λ q e. others_stay c m x.handed c.count q (λ l. e);
@@ -97,7 +98,7 @@ crash_made x p g h =
       handed_posted = g.handed_posted;
       outside = g.outside;
       fits = g.fits;
-      all_handed = λ q j l u e. let z = sym (crash_more x.cards p q g.sound f.0) ∙ u in g.all_handed q j l (or_parts _ _ z).1 e;
+      all_handed = λ q j l u e. g.all_handed q j l (up_before x.cards p q g.sound f.0 u).1 e;
     }
 
 pub crash_means : (x : AtOnceState) (p : ℕ) → MadeAtOnce x → crash_answer (seen x).net p ≡ Ok tt → Crashed (seen x) (seen (crash_on x p)) p
@@ -134,7 +135,7 @@ suspect_means x q p g h =
 -- At rest, and before: each running card has just the posted notes.
 
 has_posted : (x : AtOnceState) → MadeAtOnce x → (p m : ℕ) → Runs (seen x).net p → has (set_in x.handed p) m ≡ is_some (poster_in x.posters m)
-has_posted x g p m r = bool_same _ _ (g.handed_posted p m) (λ h. g.all_handed p m r.card r.up h)
+has_posted x g p m r = one_truth _ _ (g.handed_posted p m) (λ h. g.all_handed p m r.card r.up h)
 
 pub lawful : (x : AtOnceState) → MadeAtOnce x → Lawful (seen x)
 lawful x g =

@@ -1,10 +1,12 @@
 -- `new` and the calls make boards that hold together.
-use Rattle.std.specs.Prelude.{◌≡◌, ℕ, ◌<◌, Bool, true, false, ◌||◌, List, length, is_some, Some, None, ◌≢◌, slice_set, refl, Ok}
+use Rattle.std.specs.Prelude.{◌≡◌, ℕ, ◌<◌, true, ◌||◌, List, length, is_some, Some, None, ◌≢◌, slice_set, refl, Ok}
 use Rattle.std.proofs.Common.{sym, ap, subst, ◌∙◌, ⊎_elim, arith, length-set}
 use borrow.Author.Tests.{clash}
-use Rattle.std.specs.List.{slice_get, remove}
+use Rattle.std.specs.List.{slice_get, remove, list_any}
 use Rattle.std.proofs.ByRecursion.{All-append, All-weaker}
-use Rattle.std.proofs.lemmas.Bool.{or_cases, or_left, or_right, or_parts, and_parts, and_from, eqb-true, eqb-false, eq-eqb, ne_eqb, not-true, not_from_false}
+use Rattle.std.proofs.lemmas.List.Folds.{list_any-append}
+use Rattle.std.proofs.Math.Bool.{or_assoc}
+use Rattle.std.proofs.lemmas.Bool.{or_cases, or_left, or_right, and_parts, and_from, eqb-true, eqb-false, eq-eqb, ne_eqb, not-true, not_from_false}
 use Rattle.std.proofs.lemmas.Bool.Decides.{nat_tests}
 use Rattle.notes.specs.Sets.{has}
 use Rattle.notes.proofs.Bits.{has_none}
@@ -12,11 +14,11 @@ use Rattle.parts.specs.Refusals.{post_answer, carry_answer, lose_answer, crash_a
 use Rattle.parts.proofs.Accepted.{post_accepted, lose_accepted, crash_accepted, suspect_accepted}
 use Rattle.cards.specs.Cards.{crashed_in, with_crash}
 use Rattle.tables.specs.Tables.{poster_in, set_in, with_note}
-use Rattle.wire.specs.Wires.{sent, elsewhere, any_of}
+use Rattle.wire.specs.Wires.{sent, elsewhere}
 use Rattle.wire.specs.declared.Item.{Item}
-use Rattle.wire.proofs.Items.{all_removed, all_nth, all_left, all_sent_are, any_append, any_split, any_left, any_sent}
-use Rattle.cards.proofs.Lists.{same_all}
-use Rattle.cards.proofs.Nets.{new_sound, crash_sound, crash_more, suspect_sound}
+use Rattle.wire.proofs.Items.{all_removed, all_nth, all_left, all_sent_are, any_split, any_left, any_sent}
+use Rattle.parts.proofs.Lists.{same_all}
+use Rattle.cards.proofs.Nets.{new_sound, crash_sound, crash_more, suspect_sound, up_before}
 use Rattle.wire.proofs.Taken.{carried_item}
 use Rattle.board.specs.Board.{BoardState, seen, new_board, post_on, carry_on, crash_on, suspect_on}
 use Rattle.board.specs.Made.{Underway, brings, MadeBoard}
@@ -59,18 +61,14 @@ post_made x p m g h =
       outside = g.outside;
       fits = g.fits;
       due = λ q k l u e.
-          ap (λ b. has (set_in x.handed q) k || b) (any_append (brings k q) x.wire more)
+          ap (λ b. has (set_in x.handed q) k || b) (list_any-append (brings k q) x.wire more)
           ∙ ⊎_elim
-          (λ s. let y : any_of (brings k q) more ≡ true = any_sent (brings k q) c 7 m c.count q l (goes_to_running c q g.sound.few l u) (and_from _ _ (eq-eqb m k (sym (eqb-true k m s))) (eq-eqb q q refl)) in grind (arith, nat_tests))
+          (λ s. let y : list_any (brings k q) more ≡ true = any_sent (brings k q) c 7 m c.count q l (goes_to_running c q g.sound.few l u) (and_from _ _ (eq-eqb m k (sym (eqb-true k m s))) (eq-eqb q q refl)) in grind (arith, nat_tests))
           (λ s. let d = g.due q k l u s in grind (arith, nat_tests))
           (or_cases _ _ (sym (posted_more x.posters m p k w) ∙ e));
     }
 
 -- A carry.
-
-regroup : (h b w : Bool) → (h || (b || w)) ≡ true → ((h || b) || w) ≡ true
-regroup true b w e = refl
-regroup false b w e = e
 
 hand_out_made : (x : BoardState) (i : ℕ) (y : Item ℕ) → MadeBoard x → slice_get x.wire i ≡ Some y → MadeBoard (record { cards = x.cards; posters = x.posters; handed = with_note x.handed y.to y.load; wire = remove x.wire i })
 hand_out_made x i y g e =
@@ -87,8 +85,10 @@ hand_out_made x i y g e =
       outside = λ p h. noted_others_stay x.handed y.to y.load p (λ q. omega (arith, u.card)) ∙ g.outside p h;
       fits = λ p. noted_fits x.handed y.to y.load p s g.fits;
       due = λ p m h v d.
-          ap (λ b. b || any_of (brings m p) (remove x.wire i)) (handed_more x.handed y p m s l)
-          ∙ regroup (has (set_in x.handed p) m) (brings m p y) (any_of (brings m p) (remove x.wire i)) (ap (λ b. has (set_in x.handed p) m || b) (sym (any_split (brings m p) x.wire i y e)) ∙ g.due p m h v d);
+          ap (λ b. b || list_any (brings m p) (remove x.wire i)) (handed_more x.handed y p m s l)
+          ∙ or_assoc (has (set_in x.handed p) m) (brings m p y) (list_any (brings m p) (remove x.wire i))
+          ∙ ap (λ b. has (set_in x.handed p) m || b) (sym (any_split (brings m p) x.wire i y e))
+          ∙ g.due p m h v d;
     }
 
 pub carry_made : (x : BoardState) (i : ℕ) → MadeBoard x → carry_answer (seen x).net i ≡ Ok tt → MadeBoard (carry_on x i)
@@ -120,7 +120,7 @@ crash_made x p g h =
       outside = g.outside;
       fits = g.fits;
       due = λ q m l u e.
-          let v = or_parts _ _ (sym (crash_more c p q g.sound f.0) ∙ u) in
+          let v = up_before c p q g.sound f.0 u in
           ⊎_elim
           (λ d. or_left _ _ d)
           (λ d. or_right _ _ (any_left (brings m q) (elsewhere p) x.wire (λ y b. not_from_false _ (ne_eqb y.to p (λ z. eqb-false q p v.0 (sym (eqb-true _ _ (and_parts _ _ b).1) ∙ z)))) d))

@@ -1,10 +1,9 @@
 -- What holds of every board that is made by `new` and the calls.
 use Rattle.std.specs.Prelude.{◌≡◌, ℕ, ◌^◌, ◌<◌, ◌≤◌, Bool, true, false, ◌&&◌, ◌||◌, List, length, is_some, Some, Option, ◌==◌}
-use Rattle.std.specs.List.{AllByRecursion}
+use Rattle.std.specs.List.{AllByRecursion, list_any}
 use Rattle.notes.specs.Sets.{has}
 use Rattle.cards.specs.Cards.{CardState, crashed_in, SoundCards}
 use Rattle.tables.specs.Tables.{poster_in, set_in}
-use Rattle.wire.specs.Wires.{any_of}
 use Rattle.wire.specs.declared.Item.{Item}
 use Rattle.board.specs.Board.{BoardState}
 
@@ -29,4 +28,4 @@ pub record MadeBoard (x : BoardState) : Type 0 where
   pub outside : (p : ℕ) → x.cards.count ≤ p → set_in x.handed p ≡ 0
   pub fits : (p : ℕ) → set_in x.handed p < 2 ^ 32
   -- a posted note is handed to each running card, or on its way to it
-  pub due : (p m : ℕ) → p < x.cards.count → crashed_in x.cards p ≡ false → is_some (poster_in x.posters m) ≡ true → (has (set_in x.handed p) m || any_of (brings m p) x.wire) ≡ true
+  pub due : (p m : ℕ) → p < x.cards.count → crashed_in x.cards p ≡ false → is_some (poster_in x.posters m) ≡ true → (has (set_in x.handed p) m || list_any (brings m p) x.wire) ≡ true

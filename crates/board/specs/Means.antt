@@ -1,8 +1,9 @@
 -- Each call, from what it makes of a board to what the interface says of it.
 use Rattle.std.specs.Prelude.{◌≡◌, ℕ, ◌<◌, true, ◌⊎◌, List, length, is_some, Some, None, refl, Ok}
 use Rattle.std.proofs.Common.{sym, ap, subst, ◌∙◌, inr, ⊎_elim, arith}
+use Rattle.std.specs.Cmp.Derive.{one_truth}
 use borrow.Author.Tests.{clash}
-use Rattle.std.specs.List.{slice_get, remove}
+use Rattle.std.specs.List.{slice_get, remove, list_any}
 use Rattle.std.proofs.lemmas.List.Edits.{length-remove}
 use Rattle.std.proofs.ByRecursion.{All-map, All-weaker}
 use Rattle.std.proofs.lemmas.List.{length-append, nil_from_length}
@@ -15,16 +16,16 @@ use Rattle.parts.specs.Broadcasting.{Started, HandedMore, Posted, Carried, Lost,
 use Rattle.parts.proofs.Accepted.{post_accepted, crash_accepted, suspect_accepted}
 use Rattle.cards.specs.Cards.{crashed_in, AllSuspected}
 use Rattle.tables.specs.Tables.{poster_in, set_in, with_note}
-use Rattle.wire.specs.Wires.{senders, sent, elsewhere, any_of}
+use Rattle.wire.specs.Wires.{senders, sent, elsewhere}
 use Rattle.wire.specs.declared.Item.{Item}
 use Rattle.wire.proofs.Items.{all_nth, part_left, length_left}
-use Rattle.cards.proofs.Lists.{written, same_all}
+use Rattle.parts.proofs.Lists.{get_or-set, same_all}
 use Rattle.cards.proofs.Nets.{new_net, same_cards, net_crashed, net_suspected, lawful_net, quiet_when, suspected_when}
-use Rattle.wire.proofs.Wires.{length_sent, length_senders}
+use Rattle.wire.proofs.Wires.{nothing_left, length_sent, length_senders}
 use Rattle.wire.proofs.Taken.{carried_item}
 use Rattle.board.specs.Board.{BoardState, seen, new_board, post_on, carry_on, lose_on, crash_on, suspect_on}
 use Rattle.board.specs.Made.{Underway, brings, MadeBoard}
-use Rattle.tables.proofs.Changes.{posted_below, noted_others_stay, nothing_left, bool_same}
+use Rattle.tables.proofs.Changes.{posted_below, noted_others_stay}
 use Rattle.board.specs.Changes.{handed_more}
 use Rattle.board.specs.Keeps.{none_lost}
 
@@ -41,7 +42,7 @@ post_means x p m g h =
     record {
       same_cards = same_cards x.cards _ _ _ _;
       work_rises_by_bound = omega (arith, length-append x.wire more, length_sent x.cards 7 m x.cards.count, g.sound.few);
-      post_stands = λ j. written x.posters m j (Some p) None (omega (arith, g.notes, f.2));
+      post_stands = λ j. get_or-set x.posters m j (Some p) None (omega (arith, g.notes, f.2));
       handed_more = same_sets_handed _ _ refl;
     }
 
@@ -85,8 +86,8 @@ suspect_means x q p g h =
 -- Each running card of a quiet board has just the posted notes.
 has_posted : (x : BoardState) → MadeBoard x → Quiet (seen x).net → (p m : ℕ) → Runs (seen x).net p → has (set_in x.handed p) m ≡ is_some (poster_in x.posters m)
 has_posted x g q p m r =
-    bool_same _ _ (g.handed_posted p m)
-    (λ h. ⊎_elim (λ a. a) (λ b. absurd (clash (ap (any_of (brings m p)) (sym (nothing_left x.wire q.empty)) ∙ b))) (or_cases _ _ (g.due p m r.card r.up h)))
+    one_truth _ _ (g.handed_posted p m)
+    (λ h. ⊎_elim (λ a. a) (λ b. absurd (clash (ap (list_any (brings m p)) (sym (nothing_left x.wire q.empty)) ∙ b))) (or_cases _ _ (g.due p m r.card r.up h)))
 
 pub lawful : (x : BoardState) → MadeBoard x → Lawful (seen x)
 lawful x g =

@@ -1,25 +1,20 @@
 -- What is known of a card, written, in the list of the crashes and in that of the suspicions; and a question that is asked of every card.
-use Rattle.std.proofs.Common.{◌≡◌, ℕ, zero, suc, ◌+◌, ◌<◌, ◌≤◌, Bool, true, false, List, [], ◌∷◌, map, get_or, set, sym, refl, ap, ◌∙◌, subst, ⊎_elim, arith}
+use Rattle.std.proofs.Common.{◌≡◌, ℕ, zero, suc, ◌+◌, ◌<◌, ◌≤◌, Bool, true, false, List, [], map, get_or, set, sym, refl, ap, ◌∙◌, subst, ⊎_elim, arith}
 use Rattle.std.specs.Bool.{Decides}
 use Rattle.std.specs.List.{range_with_len, list_all}
+use Rattle.std.proofs.Math.ListN.{get_or-map}
+use Rattle.std.proofs.Math.Seq.{map-set_same}
 use Rattle.std.proofs.lemmas.List.{map-set}
 use Rattle.std.proofs.lemmas.Bool.{and_parts, and_from, or_left, or_right, not_from_false, cases_Bool, cases_lt}
 use Rattle.std.proofs.lemmas.Bool.Decides.{nat_tests}
 use Rattle.cards.specs.declared.Card.{Card}
 use Rattle.cards.specs.Cards.{CardState, crashed_in, suspects_in, knows, knows_all, AllSuspected}
-use Rattle.cards.proofs.Lists.{get_d_map_at}
-
--- A card whose part stays leaves the list of that part as it is.
-same_part : {X Y : Type 0} (f : X → Y) (xs : List X) (i : ℕ) (v d : X) → f v ≡ f (get_or xs i d) → map f (set xs i v) ≡ map f xs
-same_part f [] i v d e = refl
-same_part f (x ∷ xs) zero v d e = ap (λ y. y ∷ map f xs) e
-same_part f (x ∷ xs) (suc i) v d e = ap (λ ys. f x ∷ ys) (same_part f xs i v d e)
 
 pub crash_written : (xs : List Card) (i : ℕ) (b : Bool) (s : List Bool) → map (λ k. k.crashed) (set xs i (record { crashed = b; suspects = s })) ≡ set (map (λ k. k.crashed) xs) i b
 crash_written xs i b s = map-set (λ k. k.crashed) xs i (record { crashed = b; suspects = s })
 
 pub crash_apart : (xs : List Card) (i : ℕ) (b : Bool) (d : Card) → map (λ k. k.suspects) (set xs i (record { crashed = b; suspects = (get_or xs i d).suspects })) ≡ map (λ k. k.suspects) xs
-crash_apart xs i b d = same_part (λ k. k.suspects) xs i (record { crashed = b; suspects = (get_or xs i d).suspects }) d refl
+crash_apart xs i b d = map-set_same (λ k. k.suspects) xs i (record { crashed = b; suspects = (get_or xs i d).suspects }) d refl
 
 pub suspicion_written : (xs : List Card) (i p : ℕ) (a b : Bool)
     → map (λ k. k.suspects) (set xs i (record { crashed = a; suspects = set (get_or xs i (record { crashed = false; suspects = [] })).suspects p b }))
@@ -27,10 +22,10 @@ pub suspicion_written : (xs : List Card) (i p : ℕ) (a b : Bool)
 suspicion_written xs i p a b =
     let none : Card = record { crashed = false; suspects = [] } in
     map-set (λ k. k.suspects) xs i (record { crashed = a; suspects = set (get_or xs i none).suspects p b })
-    ∙ ap (λ r. set (map (λ k. k.suspects) xs) i (set r p b)) (sym (get_d_map_at (λ k. k.suspects) xs i none))
+    ∙ ap (λ r. set (map (λ k. k.suspects) xs) i (set r p b)) (sym (get_or-map (λ k. k.suspects) xs i none))
 
 pub suspicion_apart : (xs : List Card) (i : ℕ) (d : Card) (s : List Bool) → map (λ k. k.crashed) (set xs i (record { crashed = (get_or xs i d).crashed; suspects = s })) ≡ map (λ k. k.crashed) xs
-suspicion_apart xs i d s = same_part (λ k. k.crashed) xs i (record { crashed = (get_or xs i d).crashed; suspects = s }) d refl
+suspicion_apart xs i d s = map-set_same (λ k. k.crashed) xs i (record { crashed = (get_or xs i d).crashed; suspects = s }) d refl
 
 -- A test that each of some numbers in a row passes.
 

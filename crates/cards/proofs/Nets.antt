@@ -2,12 +2,12 @@
 use Rattle.std.proofs.Common.{◌≡◌, ℕ, ◌<◌, ◌≤◌, Bool, true, false, cond, ◌&&◌, ◌||◌, eqb, ltb, ◌⊎◌, List, [], length, get_or, set, replicate, sym, refl, ◌∙◌, subst, ⊎_elim, arith, length-set}
 use borrow.Author.Tests.{clash}
 use Rattle.std.specs.List.{AllByRecursion}
-use Rattle.std.proofs.lemmas.Bool.{or_cases, or_right, and_parts, eqb-true}
+use Rattle.std.proofs.lemmas.Bool.{or_cases, or_parts, or_right, and_parts, eqb-true}
 use Rattle.std.proofs.lemmas.Bool.Decides.{nat_tests}
 use Rattle.parts.specs.Views.{Quiet}
 use Rattle.parts.specs.Nets.{PartOf, NewNet, SameCards, NetCrashed, NetSuspected, LawfulNet}
 use Rattle.cards.specs.Cards.{CardState, crashed_in, suspects_in, new_cards, with_crash, with_suspicion, net_of, AllSuspected, SoundCards}
-use Rattle.cards.proofs.Lists.{written, row_written, rows_kept, same_all, same_rows, new_row}
+use Rattle.parts.proofs.Lists.{get_or-set, row_written, rows_kept, same_all, same_rows, new_row}
 
 -- New cards.
 
@@ -39,10 +39,14 @@ true_or true d = refl
 true_or false d = refl
 
 marked : (xs : List Bool) (p q : ℕ) → p < length xs → get_or (set xs p true) q false ≡ (eqb q p || get_or xs q false)
-marked xs p q h = written xs p q true false h ∙ true_or (eqb q p) (get_or xs q false)
+marked xs p q h = get_or-set xs p q true false h ∙ true_or (eqb q p) (get_or xs q false)
 
 pub crash_more : (c : CardState) (p q : ℕ) → SoundCards c → p < c.count → crashed_in (with_crash c p) q ≡ (eqb q p || crashed_in c q)
 crash_more c p q g h = marked c.crashed p q (omega (arith, g.crashes, g.few))
+
+-- A card that runs after a crash ran before it, and is not the one that crashed.
+pub up_before : (c : CardState) (p q : ℕ) → SoundCards c → p < c.count → crashed_in (with_crash c p) q ≡ false → (eqb q p ≡ false) × (crashed_in c q ≡ false)
+up_before c p q g h u = or_parts _ _ (sym (crash_more c p q g h) ∙ u)
 
 pub crash_sound : (c : CardState) (p : ℕ) → SoundCards c → p < c.count → SoundCards (with_crash c p)
 crash_sound c p g h =

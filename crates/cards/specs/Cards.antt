@@ -15,6 +15,10 @@ crashed_in c p = slice_index_or c.crashed p false
 abbrev pub suspects_in : CardState → ℕ → ℕ → Bool
 suspects_in c q p = slice_index_or (slice_index_or c.suspicions q []) p false
 
+-- Card p runs.
+abbrev pub Running : CardState → ℕ → Type 0
+Running c p = (p < c.count) × (crashed_in c p ≡ false)
+
 -- Above 6 makes none.
 abbrev pub new_cards : ℕ → CardState
 new_cards n = record { count = cond (nat_lt 6 n) 0 n; crashed = replicate 6 false; suspicions = replicate 6 (replicate 6 false) }

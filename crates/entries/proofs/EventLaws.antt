@@ -4,7 +4,7 @@ use Rattle.std.proofs.lemmas.Bool.{cases_Bool, cond-true, cond-false, eqb-true}
 use Rattle.std.specs.Option.{option_map}
 use Rattle.text.specs.Fields.{Cut, read_field, number_in, letter_in}
 use Rattle.text.specs.Written.{field_bytes}
-use Rattle.text.proofs.FieldLaws.{placed}
+use Rattle.text.proofs.FieldLaws.{mapped_some, placed}
 use Rattle.entries.specs.declared.event.Event.{Event}
 use Rattle.entries.specs.declared.event.Event.TheVariants.{Post, Propose, Take, Crash, Suspect, Carry, Lose, Settle}
 use Rattle.parts.specs.declared.wires.Wire.{Wire}
@@ -12,7 +12,7 @@ use Rattle.parts.specs.declared.wires.Wire.TheVariants.{Broadcast, Consensus}
 use Rattle.entries.specs.Chains.{bind}
 use Rattle.entries.specs.Events.{one_number, two_numbers, wire_of, wire_item, event_by, event_from, event_of}
 use Rattle.entries.specs.Written.{ReadsWritten, anywhere, wire_word, event_words, event_text, EventAllowed}
-use Rattle.entries.proofs.WordLaws.{bind_some, mapped_some, literal_plain, decimal_plain, Plain, Wordy, by_words, letter_only, number_only, number_back}
+use Rattle.entries.proofs.WordLaws.{bind_some, literal_plain, decimal_plain, Plain, Wordy, by_words, letter_only, number_only, number_back}
 
 -- What follows the letter
 one_only : (fs : List Cut) (n : ℕ) → one_number fs ≡ Some n → (map field_bytes fs ≡ decimal n ∷ []) × (n ≤ 65535)

@@ -27,9 +27,9 @@ read_by : {A : Type 0} (place : ℕ) (rest : Span) (o : Option A) (q : A × Span
 read_by place rest None q e = absurd (grind arith)
 read_by place rest (Some x) q e = let t : (x, rest) ≡ q = cc in (ap (λ r. Some r.0) t, sym (ap (λ r. r.1) t))
 
-refused_by : {A : Type 0} (place : ℕ) (rest : Span) (o : Option A) (f : LineFault) → or_wrong place rest o ≡ Err f → f ≡ Wrong place
-refused_by place rest None f e = cc
-refused_by place rest (Some x) f e = absurd (grind arith)
+wrong_by : {A : Type 0} (place : ℕ) (rest : Span) (o : Option A) (f : LineFault) → or_wrong place rest o ≡ Err f → f ≡ Wrong place
+wrong_by place rest None f e = cc
+wrong_by place rest (Some x) f e = absurd (grind arith)
 
 module _ {A B : Type 0} (rule : Span → Option A) (put : ℕ → B → A) (text : B → List ℕ) (Allowed : B → Type 0) (w : ReadsWritten rule put text Allowed) where
   abbrev Reads : Span → A × Span → B → Type 0
@@ -64,7 +64,7 @@ module _ {A B : Type 0} (rule : Span → Option A) (put : ℕ → B → A) (text
       elim (then_err (line_of p) (λ l. or_wrong (place_of p) l.1 (rule l.0)) f e) [
         | inl n ↦ line_fault p f n
         | inr t ↦
-            refused_by (place_of p) t.0.1 (rule t.0.0) f t.2 ∙ wrong_place p t.0.0.0 t.0.1.0 (line_only p t.0 t.1).0
+            wrong_by (place_of p) t.0.1 (rule t.0.0) f t.2 ∙ wrong_place p t.0.0.0 t.0.1.0 (line_only p t.0 t.1).0
       ]
 
   pub one_due : (p : Span) (f : LineFault) → line_by rule p ≡ Err f → (b : B) (more : List ℕ) → Allowed b → p.0 ≡ text b ++ (10 ∷ more) → ⊥

@@ -7,7 +7,7 @@ use Rattle.entries.specs.declared.event.Event.{Event}
 use Rattle.entries.specs.declared.event.Event.TheVariants.{Post, Propose, Take, Crash, Suspect, Carry, Lose, Settle}
 use Rattle.parts.specs.declared.wires.Wire.{Wire}
 use Rattle.parts.specs.declared.wires.Wire.TheVariants.{Broadcast, Consensus}
-use Rattle.entries.specs.Chains.{bind}
+use Rattle.entries.specs.Chains.{bind, of_two}
 
 -- one number up to 65,535
 abbrev pub one_number : List Cut → Option ℕ
@@ -16,20 +16,14 @@ one_number (a ∷ []) = number_in 65535 a
 one_number (a ∷ b ∷ cs) = None
 
 abbrev pub two_numbers : List Cut → Option (ℕ × ℕ)
-two_numbers [] = None
-two_numbers (a ∷ []) = None
-two_numbers (a ∷ b ∷ []) = bind (number_in 65535 a) (λ m. bind (number_in 65535 b) (λ n. Some (m, n)))
-two_numbers (a ∷ b ∷ c ∷ ds) = None
+two_numbers = of_two (λ a b. bind (number_in 65535 a) (λ m. bind (number_in 65535 b) (λ n. Some (m, n))))
 
 -- b is the wire of the broadcast, c that of the consensus
 abbrev pub wire_of : ℕ → Option Wire
 wire_of c = cond (c == 98) (Some Broadcast) (cond (c == 99) (Some Consensus) None)
 
 abbrev pub wire_item : List Cut → Option (Wire × ℕ)
-wire_item [] = None
-wire_item (a ∷ []) = None
-wire_item (a ∷ b ∷ []) = bind (letter_in a) (λ c. bind (wire_of c) (λ w. bind (number_in 65535 b) (λ n. Some (w, n))))
-wire_item (a ∷ b ∷ c ∷ ds) = None
+wire_item = of_two (λ a b. bind (letter_in a) (λ c. bind (wire_of c) (λ w. bind (number_in 65535 b) (λ n. Some (w, n)))))
 
 -- The letter decides the event: b, p, t, x, s, c, l, r.
 abbrev pub event_by : ℕ → List Cut → Option Event

@@ -143,8 +143,8 @@ zeros_lowest (suc k) s h n =
 pub has_note : (s m : ℕ) → s < 2 ^ 32 → has s m ≡ (ltb m 32 && eqb (s / 2 ^ m % 2) 1)
 has_note s m h = has_bit 32 s m h
 
-pub with_note : (s m k : ℕ) → m < 32 → has (bit_or s (1 * 2 ^ m % 4294967296)) k ≡ (has s k || eqb k m)
-with_note s m k h =
+pub with_one_note : (s m k : ℕ) → m < 32 → has (bit_or s (1 * 2 ^ m % 4294967296)) k ≡ (has s k || eqb k m)
+with_one_note s m k h =
     let p : 2 ^ m < 2 ^ 32 = pow-lt h in
     let e : 1 * 2 ^ m % 4294967296 ≡ 2 ^ m = omega arith in
     ap (λ t. has (bit_or s t) k) e ∙ has_single_more s m k

@@ -1,8 +1,8 @@
--- Counting the numbers that pass a test, and the pigeonhole that comes of it.
-use Rattle.std.proofs.Common.{◌≡◌, ℕ, zero, suc, ◌+◌, ◌<◌, ◌≤◌, Bool, true, false, cond, eqb, ◌⊎◌, sym, refl, ap, ◌∙◌, inl, inr, ⊎_elim, arith}
-use Rattle.std.proofs.lemmas.Bool.{cases_Bool, eqb-true, eqb-false}
+-- Counting the numbers that pass a test, and the pigeonhole that comes of it; and sums.
+use Rattle.std.proofs.Common.{◌≡◌, ℕ, zero, suc, ◌+◌, ◌*◌, ◌<◌, ◌≤◌, Bool, true, false, cond, eqb, ◌⊎◌, sym, refl, ap, ◌∙◌, subst, inl, inr, ⊎_elim, suc-mul, arith}
+use Rattle.std.proofs.lemmas.Bool.{cases_Bool, cases_eq, eqb-true, eqb-false}
 use Rattle.std.proofs.lemmas.Bool.Decides.{nat_tests}
-use Rattle.notes.specs.Sets.{how_many}
+use Rattle.notes.specs.Sets.{how_many, total}
 
 -- The first number apart from the others; and two tests that agree.
 pub count_first : (f : ℕ → Bool) (n : ℕ) → how_many f (suc n) ≡ cond (f 0) 1 0 + how_many (λ m. f (suc m)) n
@@ -91,3 +91,35 @@ all_reached (suc n) f h apart k l =
     (λ r. r)
     (λ none. absurd (let p = pigeonhole (suc n) n (instead f n k) (instead_below f (suc n) n k h none l) (instead_apart f (suc n) n k apart none) in omega arith))
     (find f (suc n) k)
+
+-- Sums.
+
+pub total_le : (f g : ℕ → ℕ) (n : ℕ) → ((k : ℕ) → k < n → f k ≤ g k) → total f n ≤ total g n
+unfolding total
+total_le f g zero h = omega arith
+total_le f g (suc n) h = omega (arith, h n (omega arith), total_le f g n (λ k l. h k (omega arith)))
+
+-- What the part x gains is `more`, and what it gives up is `less`; no other part falls.
+pub total_trade : (f g : ℕ → ℕ) (n x less more : ℕ) → x < n → ((k : ℕ) → k < n → (k ≡ x → ⊥) → f k ≤ g k) → f x + less ≤ g x + more → total f n + less ≤ total g n + more
+unfolding total
+total_trade f g zero x less more l h e = absurd (omega arith)
+total_trade f g (suc n) x less more l h e =
+    ⊎_elim
+    (λ z. let here : f n + less ≤ g n + more = subst (λ j. f j + less ≤ g j + more) (sym z) e in omega (arith, here, total_le f g n (λ k b. h k (omega arith) (λ w. omega arith))))
+    (λ d. omega (arith, h n (omega arith) d, total_trade f g n x less more (omega (arith, d)) (λ k b. h k (omega arith)) e))
+    (cases_eq n x)
+
+pub total_grow : (f g : ℕ → ℕ) (n : ℕ) → ((k : ℕ) → k < n → f k ≤ g k + 1) → total f n ≤ total g n + n
+unfolding total
+total_grow f g zero h = omega arith
+total_grow f g (suc n) h = omega (arith, h n (omega arith), total_grow f g n (λ k l. h k (omega arith)))
+
+pub total_const : (a n : ℕ) → total (λ _. a) n ≡ n * a
+unfolding total
+total_const a zero = omega arith
+total_const a (suc n) = rw (suc-mul, total_const a n)
+
+pub total_none : (f : ℕ → ℕ) (n : ℕ) → ((k : ℕ) → f k ≡ 0) → total f n ≡ 0
+unfolding total
+total_none f zero h = refl
+total_none f (suc n) h = omega (arith, h n, total_none f n h)

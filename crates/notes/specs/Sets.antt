@@ -22,3 +22,8 @@ low s = cond (s == 0) None (Some (count_trailing_zeros 32 s))
 abbrev pub how_many : (ℕ → Bool) → ℕ → ℕ
 how_many f zero = 0
 how_many f (suc n) = how_many f n + cond (f n) 1 0
+
+-- The sum of f over the numbers below n.
+unfoldable pub total : (ℕ → ℕ) → ℕ → ℕ
+total f zero = 0
+total f (suc n) = total f n + f n

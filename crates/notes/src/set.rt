@@ -55,7 +55,7 @@ impl NoteSet {
     }
 
     // The set with one note added; a number above 31 adds nothing.
-    #[tactic(auto, using(crate::proofs::Bits::with_note))]
+    #[tactic(auto, using(crate::proofs::Bits::with_one_note))]
     pub fn with(self, note: usize) -> NoteSet
         ensures number { result ≡ added self note }
         ensures notes { (m : ℕ) → has result m ≡ (has self m || (nat_lt note 32 && m == note)) }

@@ -2,6 +2,8 @@
 use Rattle.std.proofs.Common.{◌≡◌, ℕ, zero, suc, ◌+◌, ◌*◌, ◌^◌, ◌<◌, ◌≤◌, Bool, true, false, eqb, ◌⊎◌, List, [], ◌∷◌, ◌++◌, length, is_some, Some, None, Option, sym, refl, ap, ◌∙◌, subst, inl, inr, append_assoc, append-nil, mul-le-mul_right, add-mul, mul-add, mul_left_comm, arith, length-append}
 use Rattle.std.proofs.lemmas.Nat.{mul-le}
 use Rattle.std.proofs.lemmas.Bool.{eqb-true, cases_Bool, cases_eq, cases_lt, or_cases, both_ways}
+use Rattle.std.proofs.lemmas.Option.{none-some}
+use Rattle.notes.proofs.Counting.{total_le, total_const}
 use Rattle.parts.specs.Views.{BroadcastView, ConsensusView, Runs, FullSuspicion, Quiet}
 use Rattle.parts.specs.Broadcasting.{UniformAgreement}
 use Rattle.parts.specs.Broadcasting as broadcast
@@ -10,7 +12,7 @@ use Rattle.parts.proofs.Options.{some_held}
 use Rattle.order.specs.Words.{In, among, NoneTwice, Begins, one_if, step_bound}
 use Rattle.order.specs.Views.{Ledger, IsPosted, posts, Ranks, Rest}
 use Rattle.order.specs.Law.{OneOrder}
-use Rattle.order.proofs.Lists.{among_append, none_twice_append, sum_le, sum_const, pigeons}
+use Rattle.order.proofs.Lists.{among_append, none_twice_append, pigeons}
 use Rattle.order.proofs.Invariant.{LogAfter, spent, Consistent}
 use Rattle.order.proofs.Invariant.LogAfter.{at_first, one_more}
 
@@ -50,16 +52,13 @@ one_long : (m : ℕ) (l : List ℕ) → among m l ≡ true → 1 ≤ length l
 one_long m [] h = absurd (both_ways false refl h)
 one_long m (x ∷ xs) h = omega arith
 
-one_most : {A : Type 0} (o : Option A) → one_if o ≤ 1
+pub one_most : {A : Type 0} (o : Option A) → one_if o ≤ 1
 one_most None = omega arith
 one_most (Some x) = omega arith
 
-not_none : {A : Type 0} (o : Option A) (x : A) → o ≡ Some x → o ≡ None → ⊥
-not_none o x e f = let z : ◌≡◌ {A = ℕ} 0 1 = sym (ap one_if f) ∙ ap one_if e in omega arith
-
 pub posts_few : (b : BroadcastView) → posts b ≤ 32
 unfolding posts
-posts_few b = omega (arith, sum_le (λ m. one_if (b.poster m)) (λ _. 1) 32 (λ m l. one_most (b.poster m)), sum_const 1 32)
+posts_few b = omega (arith, total_le (λ m. one_if (b.poster m)) (λ _. 1) 32 (λ m l. one_most (b.poster m)), total_const 1 32)
 
 -- A running card below n whose f is the least.
 pub record Least (n : ℕ) (crashed : ℕ → Bool) (f : ℕ → ℕ) : Type 0 where
@@ -209,8 +208,8 @@ module _ {B C book : ℕ} {batch : ℕ → List ℕ} {b : BroadcastView} {c : Co
   pub within_bound : o.steps ≤ step_bound (posts b) b.net.cards B C
   within_bound =
       let t = posts b * (C + 2) in
-      let each = sum_le (spent C c o.instance) (λ _. t) b.net.cards (λ p l. spent_within p) in
-      let all = sum_const t b.net.cards in
+      let each = total_le (spent C c o.instance) (λ _. t) b.net.cards (λ p l. spent_within p) in
+      let all = total_const t b.net.cards in
       let parts = mul-add (posts b) B (b.net.cards * (C + 2)) in
       let swap : posts b * (b.net.cards * (C + 2)) ≡ b.net.cards * t = mul_left_comm (posts b) b.net.cards (C + 2) in
       omega (arith, I.paid, each, all, parts, swap)
@@ -254,7 +253,7 @@ module _ {B C book : ℕ} {batch : ℕ → List ℕ} {b : BroadcastView} {c : Co
       handed_in_least q m r h = elim (cases_Bool (among m (o.log p₀))) [
         | inl t ↦ t
         | inr f ↦ let d = decided_at_rest (o.instance p₀) (all f) p₀ (to_consensus p₀ r₀) in
-            absurd (not_none (c.decision (o.instance p₀) p₀) d.0 d.1 (rest.no_take p₀ r₀))
+            absurd (none-some d.0 (sym (rest.no_take p₀ r₀) ∙ d.1))
       ]
         where
           all : among m (o.log p₀) ≡ false → (x : ℕ) → Runs c.net x → (t : ℕ) × (c.proposal (o.instance p₀) x ≡ Some t)

@@ -1,8 +1,9 @@
 -- What every run keeps: each log is made of decisions, each proposal brings new notes, and each step is paid for.
 use Rattle.std.proofs.Common.{◌≡◌, ℕ, suc, ◌+◌, ◌*◌, ◌<◌, ◌≤◌, false, List, [], ◌++◌, Some, Option}
+use Rattle.notes.specs.Sets.{total}
 use Rattle.parts.specs.Views.{BroadcastView, ConsensusView}
 use Rattle.parts.specs.Nets.{SameCards}
-use Rattle.order.specs.Words.{In, among, sum, one_if}
+use Rattle.order.specs.Words.{In, among, one_if}
 use Rattle.order.specs.Views.{Ledger, IsPosted, posts}
 
 -- The log of card p when it has taken its first k decisions.
@@ -28,4 +29,4 @@ pub record Consistent (B C book : ℕ) (batch : ℕ → List ℕ) (b : Broadcast
   pub outside : (p : ℕ) → b.net.cards ≤ p → o.instance p ≡ 0
   pub made : (p : ℕ) → LogAfter batch c.decision p (o.instance p) (o.log p)
   pub sound : (k q s : ℕ) → c.proposal k q ≡ Some s → SoundProposal batch b c.decision k q s
-  pub paid : o.steps + b.net.work + c.net.work ≤ posts b * B + sum (spent C c o.instance) b.net.cards
+  pub paid : o.steps + b.net.work + c.net.work ≤ posts b * B + total (spent C c o.instance) b.net.cards

@@ -1,6 +1,9 @@
 -- A new carrier is consistent, and each call keeps it so.
-use Rattle.std.proofs.Common.{◌≡◌, ℕ, suc, ◌+◌, ◌*◌, ◌<◌, ◌≤◌, false, ◌&&◌, ◌||◌, eqb, ◌⊎◌, List, is_some, Some, None, Option, sym, refl, ap, ◌∙◌, subst, inl, inr, mul-le-mul_right, suc-mul, add-mul, arith, Ok}
+use Rattle.std.proofs.Common.{◌≡◌, ℕ, suc, ◌+◌, ◌*◌, ◌<◌, ◌≤◌, false, ◌&&◌, ◌||◌, eqb, ◌⊎◌, List, is_some, Some, None, sym, refl, ap, ◌∙◌, subst, inl, inr, mul-le-mul_right, suc-mul, add-mul, arith, Ok}
 use Rattle.std.proofs.lemmas.Bool.{cases_eq, eq-eqb, ne_eqb, and_from, and_left, and_right, cond-true, cond-false}
+use Rattle.std.proofs.lemmas.Option.{none-some, same_Some}
+use Rattle.notes.specs.Sets.{total}
+use Rattle.notes.proofs.Counting.{total_le, total_trade}
 use Rattle.parts.specs.Views.{Net, BroadcastView, ConsensusView, Runs}
 use Rattle.parts.specs.Nets.{SameCards, NetCrashed, NetSuspected}
 use Rattle.parts.specs.Refusals.{post_answer, propose_answer}
@@ -8,13 +11,12 @@ use Rattle.parts.specs.Broadcasting as broadcast
 use Rattle.parts.specs.Deciding as consensus
 use Rattle.parts.proofs.Accepted.{post_accepted, propose_accepted}
 use Rattle.parts.proofs.Options.{some_held, none_held}
-use Rattle.order.specs.Words.{In, sum, one_if}
+use Rattle.order.specs.Words.{In, one_if}
 use Rattle.order.specs.Views.{Ledger, IsPosted, posts}
 use Rattle.order.specs.Steps.{Waiting, Counted, Taken, Step, Run, New}
 use Rattle.order.specs.Steps.Step.{post, carry_broadcast, carry_consensus, lose_broadcast, lose_consensus, crash, suspect, propose, take}
 use Rattle.order.specs.Steps.Run.{none, then}
 use Rattle.order.specs.Law.{OrderLaw}
-use Rattle.order.proofs.Lists.{sum_bump, sum_le}
 use Rattle.order.proofs.Invariant.{LogAfter, SoundProposal, spent, Consistent}
 use Rattle.order.proofs.Invariant.LogAfter.{at_first, one_more}
 use Rattle.order.proofs.Facts.{one_order}
@@ -79,15 +81,16 @@ same_suspicion v v' w w' q p s t T = record {
 
 pub posts_stay : (v w : BroadcastView) → PostersStay v w → posts v ≤ posts w
 unfolding posts
-posts_stay v w s = sum_le (λ m. one_if (v.poster m)) (λ m. one_if (w.poster m)) 32 (λ m l. omega (arith, ap one_if (s m)))
+posts_stay v w s = total_le (λ m. one_if (v.poster m)) (λ m. one_if (w.poster m)) 32 (λ m l. omega (arith, ap one_if (s m)))
 
 posts_more : (B : ℕ) (v w : BroadcastView) (p m : ℕ) → post_answer v p m ≡ Ok tt → broadcast.Posted B v w p m → posts v + 1 ≤ posts w
 unfolding posts
 posts_more B v w p m e P =
     let a = post_accepted v p m e in
-    sum_bump (λ m. one_if (v.poster m)) (λ m. one_if (w.poster m)) 32 m 1 a.2
-    (λ j ne. omega (arith, ap one_if (P.post_stands j ∙ cond-false (eqb j m) (Some p) (v.poster j) (ne_eqb j m ne))))
-    (omega (arith, ap one_if (none_held (v.poster m) a.3), ap one_if (P.post_stands m ∙ cond-true (eqb m m) (Some p) (v.poster m) (eq-eqb m m refl))))
+    let more = total_trade (λ m. one_if (v.poster m)) (λ m. one_if (w.poster m)) 32 m 1 0 a.2
+    (λ j _ ne. omega (arith, ap one_if (P.post_stands j ∙ cond-false (eqb j m) (Some p) (v.poster j) (ne_eqb j m ne))))
+    (omega (arith, ap one_if (none_held (v.poster m) a.3), ap one_if (P.post_stands m ∙ cond-true (eqb m m) (Some p) (v.poster m) (eq-eqb m m refl)))) in
+    omega arith
 
 module _ {B C book : ℕ} {batch : ℕ → List ℕ} (b b' : BroadcastView) (c c' : ConsensusView) (o o' : Ledger) (I : Consistent B C book batch b c o) where
   log_kept : DecisionsStand c c' → (p : ℕ) → o'.log p ≡ o.log p → o'.instance p ≡ o.instance p
@@ -96,9 +99,9 @@ module _ {B C book : ℕ} {batch : ℕ → List ℕ} (b b' : BroadcastView) (c c
       (subst (λ l. LogAfter batch c'.decision p (o.instance p) l) (sym el) (log_stays c c' d (I.made p)))
 
   spent_kept : b'.net.cards ≡ b.net.cards → ProposalsStay c c' → ((p : ℕ) → o'.instance p ≡ o.instance p)
-      → sum (spent C c o.instance) b.net.cards ≤ sum (spent C c' o'.instance) b'.net.cards
-  spent_kept cs ps is = subst (λ n. sum (spent C c o.instance) b.net.cards ≤ sum (spent C c' o'.instance) n) (sym cs)
-      (sum_le (spent C c o.instance) (spent C c' o'.instance) b.net.cards
+      → total (spent C c o.instance) b.net.cards ≤ total (spent C c' o'.instance) b'.net.cards
+  spent_kept cs ps is = subst (λ n. total (spent C c o.instance) b.net.cards ≤ total (spent C c' o'.instance) n) (sym cs)
+      (total_le (spent C c o.instance) (spent C c' o'.instance) b.net.cards
       (λ p l. subst (λ i. spent C c o.instance p ≤ i * (C + 2) + one_if (c'.proposal i p) * (C + 1)) (sym (is p))
       (subst (λ x. spent C c o.instance p ≤ o.instance p * (C + 2) + one_if x * (C + 1)) (sym (ps (o.instance p) p)) (omega arith))))
 
@@ -150,9 +153,6 @@ module _ {B C book : ℕ} {batch : ℕ → List ℕ} (b b' : BroadcastView) (c c
       keep b b' c c' o o I cs S (posted_in_book b b' c c' o o I ps) h d qs (λ _. refl) (λ _. refl)
       (omega (arith, u, w, mul-le-mul_right B (posts_stay b b' ps)))
 
-some_inj : (x y : ℕ) → Some x ≡ Some y → x ≡ y
-some_inj x y e = cc
-
 module _ {B C book : ℕ} {batch : ℕ → List ℕ} (b : BroadcastView) (c c' : ConsensusView) (o o' : Ledger) (I : Consistent B C book batch b c o) where
   keep_propose : (p s : ℕ) → Waiting b o p s → propose_answer c (o.instance p) p s ≡ Ok tt → consensus.Proposed C c c' (o.instance p) p s → Counted o o'
       → Consistent B C book batch b c' o'
@@ -198,7 +198,7 @@ module _ {B C book : ℕ} {batch : ℕ → List ℕ} (b : BroadcastView) (c c' :
       new : (k q x : ℕ) → c'.proposal k q ≡ Some x → (k ≡ o.instance p) ⊎ (k ≡ o.instance p → ⊥) → (q ≡ p) ⊎ (q ≡ p → ⊥)
           → SoundProposal batch b c'.decision k q x
       new k q x e (inl ek) (inl eq) =
-          let same : s ≡ x = some_inj s x (sym put ∙ ap (λ i. c'.proposal i p) (sym ek) ∙ ap (λ i. c'.proposal k i) (sym eq) ∙ e) in
+          let same : s ≡ x = same_Some s x (sym put ∙ ap (λ i. c'.proposal i p) (sym ek) ∙ ap (λ i. c'.proposal k i) (sym eq) ∙ e) in
           subst (λ i. SoundProposal batch b c'.decision i q x) (sym ek)
           (subst (λ i. SoundProposal batch b c'.decision (o.instance p) i x) (sym eq)
           (subst (λ i. SoundProposal batch b c'.decision (o.instance p) p i) same here))
@@ -211,13 +211,17 @@ module _ {B C book : ℕ} {batch : ℕ → List ℕ} (b : BroadcastView) (c c' :
       other : (q : ℕ) → (q ≡ p → ⊥) → spent C c o.instance q ≡ spent C c' o'.instance q
       other q ne = sym (at q ∙ ap (λ x. o.instance q * (C + 2) + one_if x * (C + 1)) (others (o.instance q) q (λ _ h. ne h)))
 
-      bump : sum (spent C c o.instance) b.net.cards + (C + 1) ≤ sum (spent C c' o'.instance) b.net.cards
-      bump = sum_bump (spent C c o.instance) (spent C c' o'.instance) b.net.cards p (C + 1)
-          (omega (arith, (propose_accepted c (o.instance p) p s ok).0, I.net.cards))
-          (λ q ne. omega (arith, other q ne))
-          (let was = ap (λ x. o.instance p * (C + 2) + one_if x * (C + 1)) first in
+      bump : total (spent C c o.instance) b.net.cards + (C + 1) ≤ total (spent C c' o'.instance) b.net.cards
+      bump =
+          let was = ap (λ x. o.instance p * (C + 2) + one_if x * (C + 1)) first in
           let is = at p ∙ ap (λ x. o.instance p * (C + 2) + one_if x * (C + 1)) put in
-          omega (arith, was, is))
+          omega (
+            arith,
+            total_trade (spent C c o.instance) (spent C c' o'.instance) b.net.cards p (C + 1) 0
+                (omega (arith, (propose_accepted c (o.instance p) p s ok).0, I.net.cards))
+                (λ q _ ne. omega (arith, other q ne))
+                (omega (arith, was, is)),
+          )
 
 module _ {B C book : ℕ} {batch : ℕ → List ℕ} (b : BroadcastView) (c : ConsensusView) (o o' : Ledger) (I : Consistent B C book batch b c o) where
   keep_take : consensus.Lawful c → (p s : ℕ) → Runs b.net p → c.decision (o.instance p) p ≡ Some s → Taken batch o o' p s → Consistent B C book batch b c o'
@@ -239,13 +243,17 @@ module _ {B C book : ℕ} {batch : ℕ → List ℕ} (b : BroadcastView) (c : Co
       other : (q : ℕ) → (q ≡ p → ⊥) → spent C c o.instance q ≡ spent C c o'.instance q
       other q ne = sym (ap (λ i. i * (C + 2) + one_if (c.proposal i q) * (C + 1)) (t.instances q ne))
 
-      bump : sum (spent C c o.instance) b.net.cards + 1 ≤ sum (spent C c o'.instance) b.net.cards
-      bump = sum_bump (spent C c o.instance) (spent C c o'.instance) b.net.cards p 1 r.card
-          (λ q ne. omega (arith, other q ne))
-          (let w = some_held (c.proposal (o.instance p) p) (LC.decided_have_proposed (o.instance p) p (ap is_some e)) in
+      bump : total (spent C c o.instance) b.net.cards + 1 ≤ total (spent C c o'.instance) b.net.cards
+      bump =
+          let w = some_held (c.proposal (o.instance p) p) (LC.decided_have_proposed (o.instance p) p (ap is_some e)) in
           let was = ap (λ x. o.instance p * (C + 2) + one_if x * (C + 1)) w.1 in
           let is = ap (λ i. i * (C + 2) + one_if (c.proposal i p) * (C + 1)) t.instance in
-          omega (arith, was, is, suc-mul (o.instance p) (C + 2)))
+          omega (
+            arith,
+            total_trade (spent C c o.instance) (spent C c o'.instance) b.net.cards p 1 0 r.card
+                (λ q _ ne. omega (arith, other q ne))
+                (omega (arith, was, is, suc-mul (o.instance p) (C + 2))),
+          )
 
 pub step_keeps : {B C book : ℕ} {batch : ℕ → List ℕ} {b b' : BroadcastView} {c c' : ConsensusView} {o o' : Ledger}
     → consensus.Lawful c → Consistent B C book batch b c o → Step B C book batch b c o b' c' o' → Consistent B C book batch b' c' o'
@@ -273,9 +281,6 @@ step_keeps {b = b} {c = c} {o = o} L I (suspect {b'} {c'} q p P Q) =
 step_keeps {b = b} {c = c} {o = o} L I (propose {c'} {o'} p s W ok P t) = keep_propose b c c' o o' I p s W ok P t
 step_keeps {b = b} {c = c} {o = o} L I (take {o'} p s r e t) = keep_take b c o o' I L p s r e t
 
-never : {A : Type 0} (o : Option A) (x : A) → o ≡ None → o ≡ Some x → ⊥
-never o x e f = let z : ◌≡◌ {A = ℕ} 0 1 = sym (ap one_if e) ∙ ap one_if f in omega arith
-
 pub new_consistent : {B C book : ℕ} {batch : ℕ → List ℕ} (n : ℕ) (b : BroadcastView) (c : ConsensusView) (o : Ledger) → New n b c o → Consistent B C book batch b c o
 new_consistent {batch = batch} n b c o N =
     let v = N.broadcast.net in
@@ -286,11 +291,11 @@ new_consistent {batch = batch} n b c o N =
         crashed = λ p. w.no_crash p ∙ sym (v.no_crash p);
         suspects = λ q p. w.no_suspicion q p ∙ sym (v.no_suspicion q p);
       };
-      in_book = λ m h. absurd (never (b.poster m) h.0 (N.broadcast.nothing_posted m) h.1);
+      in_book = λ m h. absurd (none-some h.0 (sym (N.broadcast.nothing_posted m) ∙ h.1));
       outside = λ p _. N.instance p;
       made = λ p. subst (λ k. LogAfter batch c.decision p k (o.log p)) (sym (N.instance p))
           (subst (λ l. LogAfter batch c.decision p 0 l) (sym (N.log p)) at_first);
-      sound = λ k q s e. absurd (never (c.proposal k q) s (N.consensus.nothing_proposed k q) e);
+      sound = λ k q s e. absurd (none-some s (sym (N.consensus.nothing_proposed k q) ∙ e));
       paid = omega (arith, N.steps, v.no_work, w.no_work);
     }
 

@@ -1,11 +1,10 @@
--- Lists without repeats, and sums.
-use Rattle.std.proofs.Common.{◌≡◌, ℕ, zero, suc, ◌+◌, ◌*◌, ◌<◌, ◌≤◌, Bool, true, false, cond, ◌||◌, eqb, ◌⊎◌, List, [], ◌∷◌, ◌++◌, length, sym, refl, ap, ◌∙◌, subst, inl, inr, suc-mul, arith}
-use Rattle.std.proofs.lemmas.Bool.{eq-eqb, ne_eqb, cases_Bool, cases_eq, or_parts, or_from, or_left, or_right, both_ways}
-use Rattle.order.specs.Words.{among, NoneTwice, sum}
-
-or_assoc : (a b c : Bool) → ((a || b) || c) ≡ (a || (b || c))
-or_assoc true b c = refl
-or_assoc false b c = refl
+-- Lists without repeats.
+use Rattle.std.proofs.Common.{◌≡◌, ℕ, ◌<◌, ◌≤◌, true, false, cond, ◌||◌, eqb, ◌⊎◌, List, [], ◌∷◌, ◌++◌, length, sym, refl, ap, ◌∙◌, subst, inl, inr, arith}
+use Rattle.std.proofs.Math.Bool.{or_assoc}
+use Rattle.std.proofs.lemmas.Bool.{eq-eqb, ne_eqb, cases_Bool, or_parts, or_from, or_left, or_right, both_ways}
+use Rattle.notes.specs.Sets.{total}
+use Rattle.notes.proofs.Counting.{total_trade}
+use Rattle.order.specs.Words.{among, NoneTwice}
 
 pub among_append : (m : ℕ) (l r : List ℕ) → among m (l ++ r) ≡ (among m l || among m r)
 among_append m [] r = refl
@@ -22,32 +21,13 @@ none_twice_append (x ∷ xs) r ol or apart = (
     not_in (inl t) = absurd (both_ways (eqb x x) (or_parts (eqb x x) (among x xs) (apart x t)).0 (eq-eqb x x refl))
     not_in (inr f) = f
 
-pub sum_le : (f g : ℕ → ℕ) (n : ℕ) → ((i : ℕ) → i < n → f i ≤ g i) → sum f n ≤ sum g n
-sum_le f g zero h = omega arith
-sum_le f g (suc n) h = omega (arith, sum_le f g n (λ i l. h i (omega arith)), h n (omega arith))
-
--- g is nowhere below f, and at x larger by d.
-pub sum_bump : (f g : ℕ → ℕ) (n x d : ℕ) → x < n → ((i : ℕ) → (i ≡ x → ⊥) → f i ≤ g i) → f x + d ≤ g x → sum f n + d ≤ sum g n
-sum_bump f g zero x d l h hx = omega arith
-sum_bump f g (suc n) x d l h hx =
-    elim (cases_eq n x) [
-      | inl e ↦
-          let at : f n + d ≤ g n = subst (λ y. f y + d ≤ g y) (sym e) hx in
-          omega (arith, sum_le f g n (λ i below. h i (λ same. omega arith)), at)
-      | inr ne ↦ omega (arith, sum_bump f g n x d (omega arith) h hx, h n ne)
-    ]
-
-pub sum_const : (a n : ℕ) → sum (λ _. a) n ≡ n * a
-sum_const a zero = omega arith
-sum_const a (suc n) = rw (suc-mul, sum_const a n)
-
--- A list without repeats whose notes are all below n and counted by f is no longer than the sum of f.
-pub pigeons : (l : List ℕ) (f : ℕ → ℕ) (n : ℕ) → NoneTwice l → ((m : ℕ) → among m l ≡ true → (m < n) × (1 ≤ f m)) → length l ≤ sum f n
+-- A list without repeats whose notes are all below n and counted by f is no longer than the total of f.
+pub pigeons : (l : List ℕ) (f : ℕ → ℕ) (n : ℕ) → NoneTwice l → ((m : ℕ) → among m l ≡ true → (m < n) × (1 ≤ f m)) → length l ≤ total f n
 pigeons [] f n o h = omega arith
 pigeons (x ∷ xs) f n o h =
     let there = h x (or_left (eqb x x) (among x xs) (eq-eqb x x refl)) in
     let rest = pigeons xs less n o.1 (λ m i. ((h m (or_right (eqb m x) (among m xs) i)).0, subst (λ v. 1 ≤ v) (sym (other m (apart m i))) (h m (or_right (eqb m x) (among m xs) i)).1)) in
-    let bump = sum_bump less f n x 1 there.0 (λ i ne. omega (arith, other i ne)) (omega (arith, there.1, none)) in
+    let bump = total_trade less f n x 1 0 there.0 (λ i _ ne. omega (arith, other i ne)) (omega (arith, there.1, none)) in
     omega (arith, rest, bump)
   where
     less : ℕ → ℕ

@@ -1,7 +1,8 @@
 -- What the carrier shows beside the views of its broadcast and its consensus.
 use Rattle.std.specs.Prelude.{◌≡◌, ℕ, ◌<◌, true, false, List, [], Some, None}
+use Rattle.notes.specs.Sets.{total}
 use Rattle.parts.specs.Views.{BroadcastView, ConsensusView, Runs}
-use Rattle.order.specs.Words.{In, among, NoneTwice, sum, one_if}
+use Rattle.order.specs.Words.{In, among, NoneTwice, one_if}
 
 -- What the carrier itself keeps: for each card its log and the instance that it has come to, and the count of steps.
 pub record Ledger : Type 0 where
@@ -15,7 +16,7 @@ IsPosted v m = (p : ℕ) × (v.poster m ≡ Some p)
 
 -- How many notes are posted.
 unfoldable pub posts : BroadcastView → ℕ
-posts v = sum (λ m. one_if (v.poster m)) 32
+posts v = total (λ m. one_if (v.poster m)) 32
 
 -- `batch s` lists the notes of the set s that are below `book`, each once.
 pub record Ranks (batch : ℕ → List ℕ) (book : ℕ) : Type 0 where

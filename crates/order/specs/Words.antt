@@ -1,5 +1,5 @@
--- Lists of notes, sums, and the words in which the law of the order speaks.
-use Rattle.std.specs.Prelude.{◌≡◌, ℕ, zero, suc, ◌+◌, ◌*◌, Bool, true, false, ◌||◌, List, [], ◌∷◌, ◌++◌, Some, None, Option, ◌==◌}
+-- Lists of notes, and the words in which the law of the order speaks.
+use Rattle.std.specs.Prelude.{◌≡◌, ℕ, ◌+◌, ◌*◌, Bool, true, false, ◌||◌, List, [], ◌∷◌, ◌++◌, Some, None, Option, ◌==◌}
 use Rattle.notes.specs.Sets.{has}
 
 -- The set s holds the note m.
@@ -19,11 +19,6 @@ NoneTwice (x ∷ xs) = (among x xs ≡ false) × NoneTwice xs
 -- One list is a beginning of another: appending some notes or none to it gives the other.
 abbrev pub Begins : List ℕ → List ℕ → Type 0
 Begins l whole = (rest : List ℕ) × (whole ≡ l ++ rest)
-
--- The sum of f over the numbers below n.
-abbrev pub sum : (ℕ → ℕ) → ℕ → ℕ
-sum f zero = 0
-sum f (suc n) = sum f n + f n
 
 abbrev pub one_if : {A : Type 0} → Option A → ℕ
 one_if None = 0

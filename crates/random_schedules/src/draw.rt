@@ -1,5 +1,5 @@
 // Drawing a schedule, as a file.
-use crate::pile::Pile;
+use crate::pile::KnownPile;
 use crate::random::Random;
 use entries::event::{Event, Wire};
 use std::alloc::{AllocError, Global};
@@ -128,7 +128,11 @@ fn push_events(heap: Global, file: &mut String, events: &[Event]) -> Result<(), 
     Ok(())
 }
 
-pub(crate) fn draw(heap: Global, random: &mut Random, pile: Pile) -> Result<Drawn, AllocError> {
+pub(crate) fn draw(
+    heap: Global,
+    random: &mut Random,
+    pile: KnownPile,
+) -> Result<Drawn, AllocError> {
     let cards = random.below(6).saturating_add(1);
     let notes = random.one_of(&[0, 1, 2, 3, 4, 6, 12, 32]);
     let events = draw_events(heap, random, cards, notes)?;

@@ -2,7 +2,7 @@
 use crate::draw::Drawn;
 use crate::happened::Happened;
 use crate::outcome::{CardLog, Outcome};
-use crate::pile::Pile;
+use crate::pile::KnownPile;
 
 #[derive(Clone, Copy, Drop)]
 pub(crate) struct Verdict {
@@ -84,12 +84,12 @@ impl Evidence<'_> {
     }
 }
 
-fn are_steps_within_bound(steps: u32, posts: u32, cards: u32, pile: Pile) -> bool {
+fn are_steps_within_bound(steps: u32, posts: u32, cards: u32, pile: KnownPile) -> bool {
     let for_proposals = cards.saturating_mul(pile.proposal_bound.saturating_add(2));
     steps <= posts.saturating_mul(pile.post_bound.saturating_add(for_proposals))
 }
 
-pub(crate) fn judge(drawn: &Drawn, outcome: &Outcome, pile: Pile) -> Verdict {
+pub(crate) fn judge(drawn: &Drawn, outcome: &Outcome, pile: KnownPile) -> Verdict {
     let happened = Happened::of(&drawn.events, outcome);
     let evidence = Evidence {
         logs: &outcome.logs,

@@ -13,14 +13,14 @@ use anyhow::ensure;
 use draw::{Drawn, draw};
 use law::{Verdict, judge};
 use outcome::read_report;
-use pile::{Pile, piles};
+use pile::{KnownPile, piles};
 use random::Random;
 use report::report;
 
 // How many schedules are drawn for each pile.
 const ROUNDS: u32 = 250;
 
-fn verdict_on(rt: &HostRuntime, drawn: &Drawn, pile: Pile) -> anyhow::Result<Verdict> {
+fn verdict_on(rt: &HostRuntime, drawn: &Drawn, pile: KnownPile) -> anyhow::Result<Verdict> {
     let came = report(rt.alloc(), drawn.file.as_bytes())?;
     let text = String::from_utf8_lossy(rt.alloc(), &came)?;
     let outcome = read_report(rt.alloc(), &text, drawn.events.len())?;
@@ -34,7 +34,7 @@ fn verdict_on(rt: &HostRuntime, drawn: &Drawn, pile: Pile) -> anyhow::Result<Ver
 }
 
 // Draws and judges the schedules of one pile, and counts those of which the law does not hold. A `for`, as each turn may fail.
-fn try_pile(rt: &HostRuntime, random: &mut Random, pile: Pile) -> anyhow::Result<u32> {
+fn try_pile(rt: &HostRuntime, random: &mut Random, pile: KnownPile) -> anyhow::Result<u32> {
     let mut settled = 0u32;
     let mut amiss = 0u32;
     for _ in 0..ROUNDS {

@@ -1,6 +1,6 @@
 // The piles, by their words in a schedule file, with what the law asks to know of them.
 #[derive(Clone, Copy, Drop)]
-pub(crate) struct Pile {
+pub(crate) struct KnownPile {
     pub(crate) words: &'static str,
     pub(crate) uniform: bool,
     // By how much a post, and a proposal, may raise the work.
@@ -8,8 +8,8 @@ pub(crate) struct Pile {
     pub(crate) proposal_bound: u32,
 }
 
-fn named(words: &'static str, uniform: bool, post_bound: u32, proposal_bound: u32) -> Pile {
-    Pile {
+fn named(words: &'static str, uniform: bool, post_bound: u32, proposal_bound: u32) -> KnownPile {
+    KnownPile {
         words,
         uniform,
         post_bound,
@@ -17,7 +17,7 @@ fn named(words: &'static str, uniform: bool, post_bound: u32, proposal_bound: u3
     }
 }
 
-pub(crate) fn piles() -> [Pile; 12] {
+pub(crate) fn piles() -> [KnownPile; 12] {
     [
         named("relay flood", false, 30, 30),
         named("relay register", false, 30, 1),

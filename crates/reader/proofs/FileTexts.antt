@@ -1,6 +1,7 @@
 -- The file that is accepted is the written form of its schedule; the first fault stands where what was read ends.
-use Rattle.std.proofs.Common.{◌≡◌, ℕ, ◌<◌, ◌≤◌, true, false, eqb, ltb, List, [], ◌∷◌, ◌++◌, length, take, is_ok, Ok, Err, Result, sym, refl, ap, ◌∙◌, subst, ⊎_elim, append_assoc, append-nil, arith, length-append}
+use Rattle.std.proofs.Common.{◌≡◌, ℕ, ◌<◌, ◌≤◌, true, false, eqb, ltb, List, [], ◌++◌, length, take, is_ok, Ok, Err, Result, sym, refl, ap, ◌∙◌, subst, ⊎_elim, append_assoc, append-nil, arith, length-append}
 use Rattle.std.proofs.lemmas.Bool.Decides.{nat_tests}
+use Rattle.std.proofs.lemmas.List.{nil_from_length}
 use Rattle.std.proofs.lemmas.Bool.{cases_Bool, cond-true, cond-false, eqb-true, ltb-true}
 use Rattle.std.specs.List.{AllByRecursion}
 use Rattle.text.specs.declared.fault.LineFault.{LineFault}
@@ -95,9 +96,9 @@ breaks_at file sofar tail Due f e fault due = record {
 
 -- One reading after the other
 
-split : {A B E F : Type 0} (s : Result A E) (g : E → F) (f : A → Result B F) (P : Result B F → Type 0) → ((x : A) → s ≡ Ok x → P (f x)) → ((e : E) → s ≡ Err e → P (Err (g e))) → P (and_then (map_err g s) f)
-split (Ok x) g f P more ends = more x refl
-split (Err e) g f P more ends = ends e refl
+split_mapped : {A B E F : Type 0} (s : Result A E) (g : E → F) (f : A → Result B F) (P : Result B F → Type 0) → ((x : A) → s ≡ Ok x → P (f x)) → ((e : E) → s ≡ Err e → P (Err (g e))) → P (and_then (map_err g s) f)
+split_mapped (Ok x) g f P more ends = more x refl
+split_mapped (Err e) g f P more ends = ends e refl
 
 module _ (file : List ℕ) where
   abbrev Says : Result Whole FileFault → Type 0
@@ -117,7 +118,7 @@ module _ (file : List ℕ) where
           ⊎_elim
           (λ y.
           let none : length q.0 ≡ 0 = eqb-true (length q.0) 0 y in
-          let empty : q.0 ≡ [] = nothing_left q.0 none in
+          let empty : q.0 ≡ [] = nil_from_length q.0 none in
           subst Says (sym (cond-true (eqb (length q.0) 0) (Ok w) (Err (Surplus (place_of q))) y))
           (record { contents = c; notes = ns; events = es }, good, same, whole ∙ ap (λ t. written (record { contents = c; notes = ns; events = es }) ++ t) empty ∙ append-nil _))
           (λ n.
@@ -132,10 +133,6 @@ module _ (file : List ℕ) where
             start = ap (λ e. place_of (q.0, e)) end ∙ tail_place file (written (record { contents = c; notes = ns; events = es })) q.0 whole;
           }))
           (cases_Bool (eqb (length q.0) 0))
-        where
-          nothing_left : (bs : List ℕ) → length bs ≡ 0 → bs ≡ []
-          nothing_left [] e = refl
-          nothing_left (b ∷ bs) e = absurd (omega arith)
 
       after_notes : (noted : Noted) → noted ≡ noted_at c.kind (length (contents_text c)) ns → (q : Span) → file ≡ contents_text c ++ (written_lines (note_text c.kind) ns ++ q.0) → q.1 ≡ length file
           → Says (and_then (map_err events_fault (lines_of event_of c.events q)) (λ e. ended (record { contents = c; notes = noted; events = e.0 }) e.1))
@@ -143,7 +140,7 @@ module _ (file : List ℕ) where
           let len = ap length stands ∙ length-append (contents_text c) (written_lines (note_text c.kind) ns ++ q.0) in
           let len' = length-append (written_lines (note_text c.kind) ns) q.0 in
           let inside : length q.0 ≤ q.1 = omega arith in
-          split (lines_of event_of c.events q) events_fault (λ e. ended (record { contents = c; notes = noted; events = e.0 }) e.1) Says
+          split_mapped (lines_of event_of c.events q) events_fault (λ e. ended (record { contents = c; notes = noted; events = e.0 }) e.1) Says
           (λ r e.
           let o = lines_only event_of anywhere event_text EventAllowed event_reads [] c.events q r e in
           let l = o.1 in
@@ -173,7 +170,7 @@ module _ (file : List ℕ) where
         let len = ap length stands ∙ length-append (contents_text c) q.0 in
         let inside : length q.0 ≤ q.1 = omega arith in
         let place : place_of q ≡ length (contents_text c) = omega arith in
-        split (notes_of c.kind c.notes q) notes_fault (λ n. and_then (map_err events_fault (lines_of event_of c.events n.1)) (λ e. ended (record { contents = c; notes = n.0; events = e.0 }) e.1)) Says
+        split_mapped (notes_of c.kind c.notes q) notes_fault (λ n. and_then (map_err events_fault (lines_of event_of c.events n.1)) (λ e. ended (record { contents = c; notes = n.0; events = e.0 }) e.1)) Says
         (λ n e.
         let o = notes_only c.kind c.notes q n e in
         let l = o.1.0 in
@@ -197,7 +194,7 @@ module _ (file : List ℕ) where
   whole_file : Says (and_then (map_err (λ f. InContents f) (contents_of (whole_of file))) rest)
   unfolding ContentsSays
   whole_file =
-      split (contents_of (whole_of file)) (λ f. InContents f) rest Says
+      split_mapped (contents_of (whole_of file)) (λ f. InContents f) rest Says
       (λ q e. let o = contents_say (whole_of file) (Ok q) (sym e) in after_contents q.0 o.2 q.1 o.0 o.1)
       (λ f e.
       let o = (contents_say (whole_of file) (Err f) (sym e)).0 in

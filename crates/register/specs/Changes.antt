@@ -3,7 +3,7 @@ use Rattle.std.specs.Prelude.{◌≡◌, ℕ, ◌<◌, Bool, true, false, cond, 
 use Rattle.std.proofs.Common.{sym, ap, ◌∙◌, inl, inr, ⊎_elim, length-set, get_or-set_same, get_or-set_other}
 use borrow.Author.Tests.{clash}
 use Rattle.std.proofs.lemmas.Bool.{cases_Bool, cond-true, cond-false, cond_both, and_parts, eqb-true}
-use Rattle.cards.proofs.Lists.{written}
+use Rattle.parts.proofs.Lists.{get_or-set}
 use Rattle.register.specs.Held.{held_in, filled}
 
 -- A place that may have been written.
@@ -46,6 +46,6 @@ filled_from t k j s o h e =
     ⊎_elim
     (λ b. inl (sym (ap (λ l. held_in l j) (cond-true (is_some (held_in t k)) t (slice_set t k o) b)) ∙ e))
     (λ b.
-    let w = sym (written t k j o None h) ∙ sym (ap (λ l. held_in l j) (cond-false (is_some (held_in t k)) t (slice_set t k o) b)) ∙ e in
+    let w = sym (get_or-set t k j o None h) ∙ sym (ap (λ l. held_in l j) (cond-false (is_some (held_in t k)) t (slice_set t k o) b)) ∙ e in
     ⊎_elim (λ z. inr (eqb-true j k z.0, z.1)) (λ z. inl z.1) (which (j == k) o (held_in t j) (Some s) w))
     (cases_Bool (is_some (held_in t k)))

@@ -2,19 +2,20 @@
 use Rattle.std.specs.Prelude.{◌≡◌, ℕ, ◌^◌, ◌<◌, Bool, true, false, cond, not, ◌&&◌, ◌||◌, ◌⊎◌, List, [], ◌∷◌, length, is_some, Some, None, Option, ◌==◌, refl, Ok}
 use Rattle.std.proofs.Common.{sym, ap, subst, ◌∙◌, inl, inr, ⊎_elim, arith}
 use borrow.Author.Tests.{clash}
-use Rattle.std.specs.List.{slice_get, remove, AllByRecursion}
+use Rattle.std.specs.List.{slice_get, remove, AllByRecursion, list_any}
 use Rattle.std.proofs.ByRecursion.{All-append, All-weaker}
-use Rattle.std.proofs.lemmas.Bool.{or_cases, or_left, or_right, or_parts, and_parts, and_from, and_left, eq-eqb, not_from_true, not_from_false, cases_Bool, cond-true, cond-false, both_ways}
+use Rattle.std.proofs.lemmas.List.Folds.{list_any-append}
+use Rattle.std.proofs.lemmas.Bool.{or_cases, or_left, or_right, and_parts, and_from, and_left, eq-eqb, not_from_true, not_from_false, cases_Bool, cond-true, cond-false, both_ways}
 use Rattle.parts.specs.Refusals.{propose_answer, carry_answer, lose_answer, crash_answer, suspect_answer}
 use Rattle.parts.proofs.Accepted.{propose_accepted, crash_accepted, suspect_accepted}
 use Rattle.parts.proofs.Options.{some_held}
 use Rattle.cards.specs.Cards.{CardState, crashed_in, with_crash, with_suspicion}
 use Rattle.tables.specs.Tables.{Shaped, ballot_in, with_ballot}
-use Rattle.wire.specs.Wires.{item, any_of}
+use Rattle.wire.specs.Wires.{item}
 use Rattle.wire.specs.declared.Item.{Item}
-use Rattle.wire.proofs.Items.{all_removed, all_nth, any_append, any_split}
-use Rattle.cards.proofs.Lists.{same_all, same_rows}
-use Rattle.cards.proofs.Nets.{new_sound, crash_sound, crash_more, suspect_sound}
+use Rattle.wire.proofs.Items.{all_removed, all_nth, any_split}
+use Rattle.parts.proofs.Lists.{same_all, same_rows}
+use Rattle.cards.proofs.Nets.{new_sound, crash_sound, suspect_sound, up_before}
 use Rattle.wire.proofs.Taken.{carried_item, lost_item}
 use Rattle.register.specs.Held.{held_in}
 use Rattle.register.specs.Register.{RegisterState, seen, new_register, propose_on, carry_on, fill_by, decide_by, lose_on, crash_on, suspect_on}
@@ -80,8 +81,8 @@ propose_made x k p s g fits h =
       decided_proposed = λ j q e. any j q ∙ or_right _ _ (g.decided_proposed j q e);
       decided_held = g.decided_held;
       due = λ j q u e.
-          ap (λ b. is_some (ballot_in x.decisions j q) || b) (any_append (brings j q) x.wire (item p 7 k ∷ []))
-          ∙ either_way (is_some (ballot_in x.decisions j q)) (any_of (brings j q) x.wire) (any_of (brings j q) (item p 7 k ∷ []))
+          ap (λ b. is_some (ballot_in x.decisions j q) || b) (list_any-append (brings j q) x.wire (item p 7 k ∷ []))
+          ∙ either_way (is_some (ballot_in x.decisions j q)) (list_any (brings j q) x.wire) (list_any (brings j q) (item p 7 k ∷ []))
           (⊎_elim
           (λ b. let z = same_place j q k p b in inl (or_left _ _ (and_from _ _ (eq-eqb k j (sym z.0)) (eq-eqb p q (sym z.1)))))
           (λ b. inr (g.due j q u b))
@@ -142,7 +143,7 @@ taken_made x i y g e =
           (λ b. filled_stays x.held k j r (ballot_in x.proposals k p) (g.decided_held j q r b.1))
           (which (test j q) (held_in (fill_by x (Some y)) k) (ballot_in x.decisions j q) (Some r) (sym (decision_after x y j q g u) ∙ h));
       due = λ j q v h.
-          regroup (is_some (ballot_in (decide_by x (Some y)) j q)) (brings j q y) (any_of (brings j q) (remove x.wire i))
+          regroup (is_some (ballot_in (decide_by x (Some y)) j q)) (brings j q y) (list_any (brings j q) (remove x.wire i))
           (λ b.
           let z = same_place k p j q b in
           let t : test j q ≡ true = and_from _ _ (not_from_false _ (subst (λ a. crashed_in x.cards a ≡ false) (sym z.1) v)) (and_from _ _ (eq-eqb j k (sym z.0)) (eq-eqb q p (sym z.1))) in
@@ -181,7 +182,7 @@ lose_made x i g h =
       decided_proposed = g.decided_proposed;
       decided_held = g.decided_held;
       due = λ k p u e.
-          regroup (is_some (ballot_in x.decisions k p)) (brings k p t.0) (any_of (brings k p) (remove x.wire i))
+          regroup (is_some (ballot_in x.decisions k p)) (brings k p t.0) (list_any (brings k p) (remove x.wire i))
           (λ b. absurd (both_ways _ u (subst (λ a. crashed_in x.cards a ≡ true) (same_place t.0.load t.0.from k p b).1 t.3)))
           (ap (λ b. is_some (ballot_in x.decisions k p) || b) (sym (any_split (brings k p) x.wire i t.0 t.1)) ∙ g.due k p u e);
     }
@@ -203,7 +204,7 @@ crash_made x p g h =
       held_proposed = g.held_proposed;
       decided_proposed = g.decided_proposed;
       decided_held = g.decided_held;
-      due = λ k q u e. g.due k q (or_parts _ _ (sym (crash_more x.cards p q g.sound f.0) ∙ u)).1 e;
+      due = λ k q u e. g.due k q (up_before x.cards p q g.sound f.0 u).1 e;
     }
 
 pub suspect_made : (x : RegisterState) (q p : ℕ) → MadeRegister x → suspect_answer (seen x).net q p ≡ Ok tt → MadeRegister (suspect_on x q p)

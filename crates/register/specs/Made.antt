@@ -1,9 +1,8 @@
 -- What holds of every register that is made by `new` and the calls.
 use Rattle.std.specs.Prelude.{◌≡◌, ℕ, ◌^◌, ◌<◌, Bool, true, false, ◌&&◌, ◌||◌, List, length, is_some, Some, Option, ◌==◌}
-use Rattle.std.specs.List.{AllByRecursion}
+use Rattle.std.specs.List.{AllByRecursion, list_any}
 use Rattle.cards.specs.Cards.{CardState, crashed_in, SoundCards}
 use Rattle.tables.specs.Tables.{Shaped, ballot_in}
-use Rattle.wire.specs.Wires.{any_of}
 use Rattle.wire.specs.declared.Item.{Item}
 use Rattle.register.specs.Held.{held_in}
 use Rattle.register.specs.Register.{RegisterState}
@@ -30,4 +29,4 @@ pub record MadeRegister (x : RegisterState) : Type 0 where
   pub decided_proposed : (k p : ℕ) → is_some (ballot_in x.decisions k p) ≡ true → is_some (ballot_in x.proposals k p) ≡ true
   pub decided_held : (k p s : ℕ) → ballot_in x.decisions k p ≡ Some s → held_in x.held k ≡ Some s
   -- a running card that has proposed has decided, or its item is on its way
-  pub due : (k p : ℕ) → crashed_in x.cards p ≡ false → is_some (ballot_in x.proposals k p) ≡ true → (is_some (ballot_in x.decisions k p) || any_of (brings k p) x.wire) ≡ true
+  pub due : (k p : ℕ) → crashed_in x.cards p ≡ false → is_some (ballot_in x.proposals k p) ≡ true → (is_some (ballot_in x.decisions k p) || list_any (brings k p) x.wire) ≡ true

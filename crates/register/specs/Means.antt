@@ -1,11 +1,11 @@
 -- Each call, from what it makes of a register to what the interface says of it.
-use Rattle.std.specs.Prelude.{◌≡◌, ℕ, ◌^◌, ◌<◌, Bool, not, ◌&&◌, ◌⊎◌, List, [], length, Some, None, ◌==◌, refl, Ok}
+use Rattle.std.specs.Prelude.{◌≡◌, ℕ, ◌^◌, ◌<◌, Bool, not, ◌&&◌, ◌⊎◌, length, Some, None, ◌==◌, refl, Ok}
 use Rattle.std.proofs.Common.{sym, ap, ◌∙◌, inl, ⊎_elim, arith}
 use borrow.Author.Tests.{clash}
-use Rattle.std.specs.List.{slice_get, remove}
+use Rattle.std.specs.List.{slice_get, remove, list_any}
 use Rattle.std.proofs.lemmas.List.Edits.{length-remove}
 use Rattle.std.proofs.ByRecursion.{All-map, All-weaker}
-use Rattle.std.proofs.lemmas.List.{length_push, nil_from_length}
+use Rattle.std.proofs.lemmas.List.{length_push}
 use Rattle.std.proofs.lemmas.Bool.{or_cases, and_parts, cases_Bool, cond-true, cond-false, not-true, both_ways}
 use Rattle.parts.specs.Views.{ConsensusView}
 use Rattle.parts.specs.Refusals.{propose_answer, carry_answer, lose_answer, crash_answer, suspect_answer}
@@ -13,13 +13,13 @@ use Rattle.parts.specs.Deciding.{Started, DecidedMore, Proposed, Carried, Lost, 
 use Rattle.parts.proofs.Accepted.{crash_accepted, suspect_accepted}
 use Rattle.cards.specs.Cards.{crashed_in}
 use Rattle.tables.specs.Tables.{ballot_in}
-use Rattle.wire.specs.Wires.{senders, item, any_of}
+use Rattle.wire.specs.Wires.{senders, item}
 use Rattle.wire.specs.declared.Item.{Item}
 use Rattle.wire.proofs.Items.{all_nth, part_all}
-use Rattle.cards.proofs.Lists.{same_rows}
+use Rattle.parts.proofs.Lists.{same_rows}
 use Rattle.cards.proofs.Nets.{new_net, same_cards, net_crashed, net_suspected, lawful_net}
 use Rattle.wire.proofs.Taken.{carried_item, lost_item, net_lost}
-use Rattle.wire.proofs.Wires.{length_senders}
+use Rattle.wire.proofs.Wires.{nothing_left, length_senders}
 use Rattle.register.specs.Held.{held_in}
 use Rattle.register.specs.Register.{RegisterState, seen, new_register, propose_on, carry_on, fill_by, decide_by, lose_on, crash_on, suspect_on}
 use Rattle.register.specs.Made.{Underway, brings, MadeRegister}
@@ -90,9 +90,6 @@ suspect_means x q p g h =
     let f = suspect_accepted (seen x).net q p h in
     record { net = net_suspected x.cards q p _ _ _ _ g.sound f.0 f.1 (omega arith); proposals_stay = λ k r. refl; decided_more = same_decisions _ _ refl }
 
-nothing_left : (xs : List (Item ℕ)) → senders xs ≡ [] → xs ≡ []
-nothing_left xs e = nil_from_length xs (sym (length_senders xs) ∙ ap length e)
-
 pub lawful : (x : RegisterState) → MadeRegister x → Lawful (seen x)
 lawful x g =
     record {
@@ -107,5 +104,5 @@ lawful x g =
       decisions_were_proposed = λ k p s h. g.held_proposed k s (g.decided_held k p s h);
       decisions_equal = λ k p q s t hs ht. let a = g.decided_held k p s hs in let b = g.decided_held k q t ht in cc;
       quiet_all_decided = λ q k all p r.
-          ⊎_elim (λ d. d) (λ d. absurd (clash (ap (any_of (brings k p)) (sym (nothing_left x.wire q.empty)) ∙ d))) (or_cases _ _ (g.due k p r.up (all p r)));
+          ⊎_elim (λ d. d) (λ d. absurd (clash (ap (list_any (brings k p)) (sym (nothing_left x.wire q.empty)) ∙ d))) (or_cases _ _ (g.due k p r.up (all p r)));
     }

@@ -1,8 +1,9 @@
 -- Each call of relay, from what it makes of the state to what the interface says of it.
 use Rattle.std.specs.Prelude.{◌≡◌, ℕ, ◌<◌, true, false, length, Some, None, refl, Ok}
 use Rattle.std.proofs.Common.{sym, ap, ◌∙◌, ⊎_elim, arith}
+use Rattle.std.specs.Cmp.Derive.{one_truth}
 use borrow.Author.Tests.{clash}
-use Rattle.std.specs.List.{slice_get}
+use Rattle.std.specs.List.{slice_get, list_any}
 use Rattle.std.proofs.lemmas.Bool.{or_cases, or_left, both_ways}
 use Rattle.notes.specs.Sets.{has}
 use Rattle.notes.proofs.Bits.{same_sets}
@@ -12,10 +13,10 @@ use Rattle.parts.specs.Broadcasting.{Started, HandedMore, Posted, Carried, Lost,
 use Rattle.parts.proofs.Accepted.{post_accepted, crash_accepted, suspect_accepted}
 use Rattle.cards.specs.Cards.{crashed_in}
 use Rattle.tables.specs.Tables.{set_in}
-use Rattle.wire.specs.Wires.{any_of}
 use Rattle.wire.specs.declared.Item.{Item}
-use Rattle.tables.proofs.Changes.{posted_below, nothing_left, bool_same}
-use Rattle.cards.proofs.Lists.{written, same_all}
+use Rattle.wire.proofs.Wires.{nothing_left}
+use Rattle.tables.proofs.Changes.{posted_below}
+use Rattle.parts.proofs.Lists.{get_or-set, same_all}
 use Rattle.cards.proofs.Nets.{same_cards}
 use Rattle.wire.proofs.Taken.{carried_item, lost_item}
 use Rattle.spread.specs.Spread.{SpreadState, spread_work, new_spread, meet_on, posted_by, post_on, without_item, carry_on, crash_on, suspect_on}
@@ -44,7 +45,7 @@ post_means x p m g h =
     record {
       same_cards = same_cards x.cards _ _ _ _;
       work_rises_by_bound = post_net x p m g.whole f.0 f.1 f.2;
-      post_stands = λ j. written x.posters m j (Some p) None (omega (arith, g.whole.notes, f.2));
+      post_stands = λ j. get_or-set x.posters m j (Some p) None (omega (arith, g.whole.notes, f.2));
       handed_more = meet_hands (posted_by x p m) x p m (keeps.posted_sound x p m g.whole f.0 f.2) refl refl f.0 f.1 f.2;
     }
 
@@ -91,7 +92,7 @@ suspect_means x q p g h =
 -- What a running card of a quiet relay was handed, every running one was.
 spread_all : (x : SpreadState) → MadeSpread x → Quiet (seen x).net → (p q m : ℕ) → Runs (seen x).net p → Runs (seen x).net q → has (set_in x.relayed p) m ≡ true → has (set_in x.relayed q) m ≡ true
 spread_all x g quiet p q m rp rq h =
-    ⊎_elim (λ a. a) (λ b. absurd (clash (ap (any_of (brings p q m)) (sym (nothing_left x.wire quiet.empty)) ∙ b))) (or_cases _ _ (g.due p q m rp.card rq.card rp.up rq.up h))
+    ⊎_elim (λ a. a) (λ b. absurd (clash (ap (list_any (brings p q m)) (sym (nothing_left x.wire quiet.empty)) ∙ b))) (or_cases _ _ (g.due p q m (rp.card, rp.up) (rq.card, rq.up) h))
 
 pub lawful : (x : SpreadState) → MadeSpread x → Lawful (seen x)
 lawful x g =
@@ -102,6 +103,6 @@ lawful x g =
       only_posted_notes_handed = g.whole.relayed_posted;
       sets_fit_32_bits = g.whole.fits;
       no_card_no_set = g.whole.outside;
-      quiet_sets_equal = λ quiet p q rp rq. same_sets _ _ (λ m. bool_same _ _ (spread_all x g quiet p q m rp rq) (spread_all x g quiet q p m rq rp));
+      quiet_sets_equal = λ quiet p q rp rq. same_sets _ _ (λ m. one_truth _ _ (spread_all x g quiet p q m rp rq) (spread_all x g quiet q p m rq rp));
       quiet_sets_full = λ quiet p q m rp rq e. spread_all x g quiet p q m rp rq (g.poster_relayed m p e);
     }

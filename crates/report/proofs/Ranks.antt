@@ -1,9 +1,10 @@
 -- Notes rank as what they stand for; and the words of a fault.
-use Rattle.std.proofs.Common.{◌≡◌, ◌++◌, codes, length, ap, append-nil, ℕ, zero, suc, Bool, cond, eqb, leb, List, [], ◌∷◌, map, Some, None, Option, refl, ◌∙◌, ap₂}
+use Rattle.std.proofs.Common.{◌≡◌, ◌++◌, codes, length, ap, append-nil, ℕ, Bool, cond, eqb, leb, List, [], ◌∷◌, map, Some, None, Option, refl, ◌∙◌, ap₂}
 use mathlib.Core.Path.{fun_ext}
 use lib.ListN.{length-map}
 use Rattle.std.specs.List.{slice_get, range_with_len}
 use Rattle.std.specs.Option.{option_map}
+use Rattle.std.proofs.lemmas.Option.{slice_get-map}
 use Rattle.notes.specs.Sets.{how_many}
 use Rattle.notes.specs.Places.{both_stand, earlier, place}
 use Rattle.logs.specs.Orders.{lowest_that, number_in, in_ranking_order}
@@ -14,11 +15,6 @@ use Rattle.faults.specs.declared.FileFault.{FileFault}
 use Rattle.faults.specs.Faults.{fault_text}
 use Rattle.run_report.specs.Lines.{lines_text}
 use Rattle.report.specs.Reports.{bytes_before}
-
-nth_map : {A B : Type 0} (f : A → B) (xs : List A) (i : ℕ) → slice_get (map f xs) i ≡ option_map f (slice_get xs i)
-nth_map f [] i = refl
-nth_map f (x ∷ xs) zero = refl
-nth_map f (x ∷ xs) (suc i) = nth_map f xs i
 
 -- By what f makes of the notes.
 module _ {A B : Type 0} (before : B → B → Bool) (f : A → B) where
@@ -31,7 +27,7 @@ module _ {A B : Type 0} (before : B → B → Bool) (f : A → B) where
   both_mapped (Some x) (Some y) i j = refl
 
   earlier_mapped : (xs : List A) (i j : ℕ) → earlier before (map f xs) i j ≡ earlier before_by xs i j
-  earlier_mapped xs i j = ap₂ (λ a b. both_stand before a i b j) (nth_map f xs i) (nth_map f xs j) ∙ both_mapped (slice_get xs i) (slice_get xs j) i j
+  earlier_mapped xs i j = ap₂ (λ a b. both_stand before a i b j) (slice_get-map f xs i) (slice_get-map f xs j) ∙ both_mapped (slice_get xs i) (slice_get xs j) i j
 
   place_mapped : (xs : List A) → place before (map f xs) ≡ place before_by xs
   unfolding place

@@ -39,8 +39,8 @@ three_parts out xs ys zs =
     ∙ ap (λ z. out ++ z) (sym (lines_append xs (ys ++ zs)))
 
 -- One line more.
-pub one_more : (start was now : List ℕ) (lines more : List Line) (x : Line) → was ≡ start ++ lines_text lines → now ≡ was ++ lines_text (x ∷ []) → more ≡ lines ++ (x ∷ []) → now ≡ start ++ lines_text more
-one_more start was now lines more x e f g =
+pub one_line_more : (start was now : List ℕ) (lines more : List Line) (x : Line) → was ≡ start ++ lines_text lines → now ≡ was ++ lines_text (x ∷ []) → more ≡ lines ++ (x ∷ []) → now ≡ start ++ lines_text more
+one_line_more start was now lines more x e f g =
     f
     ∙ ap (λ z. z ++ lines_text (x ∷ [])) e
     ∙ append_assoc start (lines_text lines) (lines_text (x ∷ []))

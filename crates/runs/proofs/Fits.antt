@@ -1,10 +1,10 @@
 -- A carrier that every run keeps good, and what the accepted calls tell of it.
-use Rattle.std.proofs.Common.{◌≡◌, ℕ, zero, suc, ◌+◌, ◌*◌, ◌<◌, ◌≤◌, Bool, true, false, cond, not, ◌&&◌, ◌||◌, eqb, ltb, List, [], ◌∷◌, length, set, is_some, Some, None, Option, sym, refl, ap, ◌∙◌, subst, inl, inr, mul-le-mul_right, arith, Ok, Err, Result, is_ok}
+use Rattle.std.proofs.Common.{◌≡◌, ℕ, zero, suc, ◌+◌, ◌*◌, ◌<◌, ◌≤◌, Bool, true, false, cond, not, ◌&&◌, ◌||◌, eqb, ltb, List, [], ◌∷◌, length, set, is_some, Some, None, Option, sym, refl, ap, ◌∙◌, subst, mul-le-mul_right, arith, Ok, Err, Result, is_ok}
 use borrow.Author.Tests.{clash}
-use Rattle.std.proofs.lemmas.Bool.{eq-eqb, ne_eqb, ltb-true, ltb-false, cases_eq, and_from, both_ways, cond-true, cond-false}
+use Rattle.std.proofs.lemmas.Bool.{eq-eqb, ne_eqb, ltb-true, ltb-false, and_from, both_ways, cond-true, cond-false}
 use Rattle.parts.specs.declared.refusal.Refusal.{Refusal}
 use Rattle.parts.specs.declared.refusal.Refusal.TheVariants.{NoSuchCard, CardCrashed, NoSuchNote, NoSuchItem}
-use Rattle.parts.proofs.Accepted.{is_accepted}
+use Rattle.parts.proofs.Accepted.{is_accepted, post_accepted}
 use Rattle.parts.specs.Views.{BroadcastView}
 use Rattle.parts.specs.Refusals.{post_answer, carry_answer, lose_answer, crash_answer, suspect_answer, acting_answer}
 use Rattle.parts.specs.Shown.{shown, told}
@@ -13,9 +13,10 @@ use Rattle.parts.specs.declared.consensus.Consensus.{Ghosts as Consensuses}
 use Rattle.logs.specs.Orders.{number_in, appended}
 use Rattle.logs.proofs.Lowest.{lowest_some}
 use Rattle.total_order.proofs.Lowest.{found_lowest}
-use Rattle.order.specs.Words.{sum, one_if, step_bound}
+use Rattle.order.specs.Words.{one_if, step_bound}
 use Rattle.order.specs.Views.{posts}
-use Rattle.order.proofs.Lists.{sum_le}
+use Rattle.notes.proofs.Counting.{total_le, total_trade}
+use Rattle.order.proofs.Facts.{one_most}
 use Rattle.order.proofs.Facts.{within_bound}
 use Rattle.total_order.specs.Carrying.{Carrying, one_more, moved, counted, card_count, log_at, instance_at, decision_at, waiting, post_reply, posting, carrying, losing, crashing, suspecting, propose_reply, proposing, take_reply, taking, can_take, can_propose, taker, proposer, at_rest, take_or_propose, advanced, settled, settle_steps}
 use Rattle.total_order.specs.Calls.{told_by, calling}
@@ -29,24 +30,16 @@ use Rattle.runs.proofs.Good.{Means, Good, LB, LC, R, step_counted, good_post, go
 
 posts_same : (v w : BroadcastView) → ((m : ℕ) → w.poster m ≡ v.poster m) → posts w ≤ posts v
 unfolding posts
-posts_same v w e = sum_le (λ m. one_if (w.poster m)) (λ m. one_if (v.poster m)) 32 (λ m l. omega (arith, ap one_if (e m)))
+posts_same v w e = total_le (λ m. one_if (w.poster m)) (λ m. one_if (v.poster m)) 32 (λ m l. omega (arith, ap one_if (e m)))
 
-sum_most : (f g : ℕ → ℕ) (n x : ℕ) → ((i : ℕ) → (i ≡ x → ⊥) → g i ≤ f i) → g x ≤ f x + 1 → sum g n ≤ sum f n + 1
-sum_most f g zero x h hx = omega arith
-sum_most f g (suc n) x h hx = elim (cases_eq n x) [
-  | inl e ↦ let at : g n ≤ f n + 1 = subst (λ y. g y ≤ f y + 1) (sym e) hx in
-      omega (arith, at, sum_le g f n (λ i l. h i (λ j. omega arith)))
-  | inr ne ↦ omega (arith, sum_most f g n x h hx, h n ne)
-]
-
-one_most : (o : Option ℕ) → one_if o ≤ 1
-one_most None = omega arith
-one_most (Some x) = omega arith
-
-posts_one : (v w : BroadcastView) (p m : ℕ) → ((j : ℕ) → w.poster j ≡ cond (eqb j m) (Some p) (v.poster j)) → posts w ≤ posts v + 1
+posts_one : (v w : BroadcastView) (p m : ℕ) → m < 32 → ((j : ℕ) → w.poster j ≡ cond (eqb j m) (Some p) (v.poster j)) → posts w ≤ posts v + 1
 unfolding posts
-posts_one v w p m e = sum_most (λ m. one_if (v.poster m)) (λ m. one_if (w.poster m)) 32 m
-    (λ i ne. omega (arith, ap one_if (e i ∙ cond-false (eqb i m) (Some p) (v.poster i) (ne_eqb i m ne)))) (omega (arith, one_most (w.poster m)))
+posts_one v w p m l e =
+    omega (
+      arith,
+      total_trade (λ m. one_if (w.poster m)) (λ m. one_if (v.poster m)) 32 m 0 1 l
+          (λ i _ ne. omega (arith, ap one_if (e i ∙ cond-false (eqb i m) (Some p) (v.poster i) (ne_eqb i m ne)))) (omega (arith, one_most (w.poster m))),
+    )
 
 pub record Fits {X Y : Type 0} (b : Broadcasts X) (c : Consensuses Y) (n : ℕ) (t : Tally) (s : Carrying b c) : Type 0 where
   pub good : Good b c s
@@ -168,7 +161,7 @@ module _ {X Y : Type 0} (b : Broadcasts X) (c : Consensuses Y) (M : Means b c) (
           poster = λ j. P.post_stands j ∙ ap (λ o. cond (eqb j m) (Some p) o) (F.poster j);
           crashed = λ q. P.same_cards.crashed q ∙ F.crashed q;
           suspects = λ x y. P.same_cards.suspects x y ∙ F.suspects x y;
-          posts = omega (arith, F.posts, posts_one (shown b s.broadcast) (shown b (b.posting s.broadcast p m)) p m P.post_stands);
+          posts = omega (arith, F.posts, posts_one (shown b s.broadcast) (shown b (b.posting s.broadcast p m)) p m (post_accepted (shown b s.broadcast) p m f.1).2 P.post_stands);
           steps = F.steps;
         })))
 

@@ -1,5 +1,5 @@
 -- What every run keeps of a carrier, call by call.
-use Rattle.std.proofs.Common.{◌≡◌, ℕ, zero, suc, ◌+◌, ◌^◌, ◌<◌, ◌≤◌, Bool, true, false, cond, not, ◌&&◌, ◌||◌, ltb, leb, List, [], length, get_or, set, replicate, is_some, Some, None, filter, Option, sym, refl, ap, ◌∙◌, add-one, arith, length-set, get_or-set_other, get_or-set_same, Ok, Err, Result, is_ok}
+use Rattle.std.proofs.Common.{◌≡◌, ℕ, suc, ◌+◌, ◌^◌, ◌<◌, ◌≤◌, Bool, true, false, cond, not, ◌&&◌, ◌||◌, ltb, leb, List, [], length, set, is_some, Some, None, filter, Option, sym, refl, ap, ◌∙◌, add-one, arith, length-set, get_or-set_other, get_or-set_same, Ok, Err, Result, is_ok}
 use borrow.Author.Tests.{clash}
 use lib.Bits.{bit_xor, and_le_l}
 use lib.Count.{ones, count_trailing_zeros}
@@ -17,6 +17,7 @@ use Rattle.parts.specs.Broadcasting as broadcasting
 use Rattle.parts.specs.Deciding as deciding
 use Rattle.parts.proofs.Accepted.{propose_accepted}
 use Rattle.parts.proofs.Options.{some_held}
+use Rattle.parts.proofs.Lists.{same_all}
 use Rattle.parts.specs.declared.broadcast.Broadcast.{Ghosts as Broadcasts}
 use Rattle.parts.specs.declared.consensus.Consensus.{Ghosts as Consensuses}
 use Rattle.logs.specs.Orders.{number_in, appended, with_all}
@@ -47,16 +48,6 @@ pub record Good {X Y : Type 0} (b : Broadcasts X) (c : Consensuses Y) (s : Carry
   pub six_instances : length s.instances ≡ 6
   pub consistent : Consistent b.bound c.bound (length s.order) (λ d. filter (has d) s.order) (shown b s.broadcast) (told c s.consensus) (ledger b c s)
 
-no_log : (n p : ℕ) → ◌≡◌ {A = List ℕ} (get_or (replicate n []) p []) []
-no_log zero p = refl
-no_log (suc n) zero = refl
-no_log (suc n) (suc p) = no_log n p
-
-no_instance : (n p : ℕ) → ◌≡◌ {A = ℕ} (get_or (replicate n 0) p 0) 0
-no_instance zero p = refl
-no_instance (suc n) zero = refl
-no_instance (suc n) (suc p) = no_instance n p
-
 crash_same : (v w : Net) (p : ℕ) → SameCards v w → crash_answer w p ≡ crash_answer v p
 crash_same v w p S =
     ap (λ n. cond (ltb p n) (cond (w.crashed p) (Err CardCrashed) (Ok tt)) (Err NoSuchCard)) S.cards
@@ -79,8 +70,8 @@ module _ {X Y : Type 0} (b : Broadcasts X) (c : Consensuses Y) (M : Means b c) w
     consistent = new_consistent n (shown b (b.start n)) (told c (c.start n)) (ledger b c (fresh b c n order)) (record {
       broadcast = M.broadcast.new_means n;
       consensus = M.consensus.new_means n;
-      log = no_log 6;
-      instance = no_instance 6;
+      log = λ p. same_all 6 p [];
+      instance = λ p. same_all 6 p 0;
       steps = refl;
     });
   }

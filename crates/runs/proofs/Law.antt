@@ -1,10 +1,11 @@
 -- The law over every list of calls.
-use Rattle.std.proofs.Common.{◌≡◌, ℕ, zero, suc, ◌<◌, ◌≤◌, Bool, true, false, cond, not, ◌&&◌, eqb, ltb, List, length, is_some, Some, None, Option, sym, refl, ap, ◌∙◌, arith, Ok, Err, is_ok}
+use Rattle.std.proofs.Common.{◌≡◌, ℕ, ◌<◌, ◌≤◌, Bool, true, false, cond, not, ◌&&◌, eqb, ltb, List, length, is_some, Some, None, Option, sym, refl, ap, ◌∙◌, arith, Ok, Err, is_ok}
 use Rattle.std.proofs.lemmas.List.{nil_from_length}
 use Rattle.std.proofs.lemmas.Bool.{eqb-true, lt-ltb, and_parts, and_from, both_ways, not_from_false, cond-true, cond-false}
 use Rattle.std.proofs.lemmas.Bool.Decides.{nat_tests}
 use Rattle.notes.specs.Sets.{has}
 use Rattle.notes.proofs.Bits.{has_none}
+use Rattle.notes.proofs.Counting.{total_none}
 use Rattle.parts.specs.declared.refusal.Refusal.TheVariants.{NoSuchCard, CardCrashed, AlreadyProposed, NothingToPropose, NothingDecided}
 use Rattle.parts.specs.Views.{BroadcastView, Runs, FullSuspicion}
 use Rattle.parts.specs.Shown.{shown, told}
@@ -13,7 +14,7 @@ use Rattle.parts.specs.declared.broadcast.Broadcast.{Ghosts as Broadcasts}
 use Rattle.parts.specs.declared.consensus.Consensus.{Ghosts as Consensuses}
 use Rattle.logs.proofs.Lowest.{lowest_none}
 use Rattle.total_order.proofs.Lowest.{found_lowest}
-use Rattle.order.specs.Words.{In, among, sum, one_if}
+use Rattle.order.specs.Words.{In, among, one_if}
 use Rattle.order.specs.Views.{posts, Rest}
 use Rattle.order.specs.Law as order
 use Rattle.order.proofs.Facts.{one_order}
@@ -107,11 +108,7 @@ module _ {X Y : Type 0} (b : Broadcasts X) (c : Consensuses Y) (M : Means b c) (
 
 no_posts : (v : BroadcastView) → ((m : ℕ) → v.poster m ≡ None) → posts v ≤ 0
 unfolding posts
-no_posts v e = go 32
-  where
-    go : (k : ℕ) → sum (λ m. one_if (v.poster m)) k ≤ 0
-    go zero = omega arith
-    go (suc k) = omega (arith, go k, ap one_if (e k))
+no_posts v e = omega (arith, total_none (λ m. one_if (v.poster m)) 32 (λ m. ap one_if (e m)))
 
 few_cards : (cards notes : ℕ) → cond (ltb 6 (cards_of cards notes)) 0 (cards_of cards notes) ≡ cards_of cards notes
 few_cards cards notes = grind (arith, nat_tests)

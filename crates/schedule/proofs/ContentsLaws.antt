@@ -19,8 +19,8 @@ use Rattle.schedule.specs.Written.{Always, kind_word, kind_words, kind_text, bro
 use Rattle.entries.proofs.WordLaws.{bind_some, cond_some, literal_plain, decimal_plain, Plain, Wordy, by_words, word_only, number_only, number_back}
 
 -- one word among several
-among : {A : Type 0} (f : Cut) (w : List ℕ) (v y : A) (o : Option A) (P : Type 0) → cond (is_word w f) (Some v) o ≡ Some y → (field_bytes f ≡ w → v ≡ y → P) → (o ≡ Some y → P) → P
-among f w v y o P e this other =
+word_among : {A : Type 0} (f : Cut) (w : List ℕ) (v y : A) (o : Option A) (P : Type 0) → cond (is_word w f) (Some v) o ≡ Some y → (field_bytes f ≡ w → v ≡ y → P) → (o ≡ Some y → P) → P
+word_among f w v y o P e this other =
     ⊎_elim
     (λ t. let e' : Some v ≡ Some y = sym (cond-true _ (Some v) o t) ∙ e in this (word_only w f t) (cc))
     (λ n. other (sym (cond-false _ (Some v) o n) ∙ e))
@@ -28,19 +28,19 @@ among f w v y o P e this other =
 
 kind_only : (f : Cut) (k : NoteKind) → kind_in f ≡ Some k → field_bytes f ≡ kind_word k
 kind_only f k e =
-    among f (codes "wear") Wear k _ _ e (λ w q. w ∙ ap kind_word q) (λ e.
-    among f (codes "label") Label k _ _ e (λ w q. w ∙ ap kind_word q) (λ e. absurd (grind arith)))
+    word_among f (codes "wear") Wear k _ _ e (λ w q. w ∙ ap kind_word q) (λ e.
+    word_among f (codes "label") Label k _ _ e (λ w q. w ∙ ap kind_word q) (λ e. absurd (grind arith)))
 
 broadcast_only : (f : Cut) (b : BroadcastPart) → broadcast_in f ≡ Some b → field_bytes f ≡ broadcast_word b
 broadcast_only f b e =
-    among f (codes "relay") Relay b _ _ e (λ w q. w ∙ ap broadcast_word q) (λ e.
-    among f (codes "allack") AllAck b _ _ e (λ w q. w ∙ ap broadcast_word q) (λ e.
-    among f (codes "board") Board b _ _ e (λ w q. w ∙ ap broadcast_word q) (λ e. absurd (grind arith))))
+    word_among f (codes "relay") Relay b _ _ e (λ w q. w ∙ ap broadcast_word q) (λ e.
+    word_among f (codes "allack") AllAck b _ _ e (λ w q. w ∙ ap broadcast_word q) (λ e.
+    word_among f (codes "board") Board b _ _ e (λ w q. w ∙ ap broadcast_word q) (λ e. absurd (grind arith))))
 
 consensus_only : (f : Cut) (c : ConsensusPart) → consensus_in f ≡ Some c → field_bytes f ≡ consensus_word c
 consensus_only f c e =
-    among f (codes "flood") Flood c _ _ e (λ w q. w ∙ ap consensus_word q) (λ e.
-    among f (codes "register") Register c _ _ e (λ w q. w ∙ ap consensus_word q) (λ e. absurd (grind arith)))
+    word_among f (codes "flood") Flood c _ _ e (λ w q. w ∙ ap consensus_word q) (λ e.
+    word_among f (codes "register") Register c _ _ e (λ w q. w ∙ ap consensus_word q) (λ e. absurd (grind arith)))
 
 -- a key word and its field
 module _ {A : Type 0} (key : List ℕ) (rule : Cut → Option A) (value : A → List ℕ) (Allowed : A → Type 0) where

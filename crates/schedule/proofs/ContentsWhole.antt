@@ -33,14 +33,14 @@ with_cards k c = and_then (line_by pile_of c.1) (with_pile k c.0)
 abbrev with_kind : NoteKind × Span → Result (Contents × Span) LineFault
 with_kind k = and_then (line_by (count_of (codes "cards") 1 6) k.1) (with_cards k.0)
 
--- lines before a tail
-abbrev before : List (List ℕ) → List ℕ → List ℕ
-before [] tail = tail
-before (l ∷ ls) tail = l ++ (10 ∷ before ls tail)
+-- lines, and then a tail
+abbrev lines_then : List (List ℕ) → List ℕ → List ℕ
+lines_then [] tail = tail
+lines_then (l ∷ ls) tail = l ++ (10 ∷ lines_then ls tail)
 
-before_written : (ls : List (List ℕ)) (tail : List ℕ) → before ls tail ≡ written_lines line_itself ls ++ tail
-before_written [] tail = refl
-before_written (l ∷ ls) tail = ap (λ t. l ++ (10 ∷ t)) (before_written ls tail) ∙ sym (append_assoc l (10 ∷ written_lines line_itself ls) tail)
+lines_then_written : (ls : List (List ℕ)) (tail : List ℕ) → lines_then ls tail ≡ written_lines line_itself ls ++ tail
+lines_then_written [] tail = refl
+lines_then_written (l ∷ ls) tail = ap (λ t. l ++ (10 ∷ t)) (lines_then_written ls tail) ∙ sym (append_assoc l (10 ∷ written_lines line_itself ls) tail)
 
 -- one line is read: the value itself, what stands, and that the end stays
 module _ {A : Type 0} (rule : Span → Option A) (text : A → List ℕ) (Allowed : A → Type 0) (w : ReadsWritten rule anywhere text Allowed) where
@@ -72,7 +72,7 @@ split (Err e) f P more ends = ends e refl
 
 module _ (p : Span) where
   -- a line that is wrong, after some that were read
-  stop : (f : LineFault) (sofar : Contents) → ContentsAllowed sofar → (n : ℕ) → n < 5 → (q : Span) → p.0 ≡ before (take n (contents_lines sofar)) q.0 → q.1 ≡ p.1 → f ≡ fault_at q
+  stop : (f : LineFault) (sofar : Contents) → ContentsAllowed sofar → (n : ℕ) → n < 5 → (q : Span) → p.0 ≡ lines_then (take n (contents_lines sofar)) q.0 → q.1 ≡ p.1 → f ≡ fault_at q
       → ((c : Contents) (more : List ℕ) → ContentsAllowed c → q.0 ≡ get_or (contents_lines c) n [] ++ (10 ∷ more) → ⊥) → ContentsStop p f
   stop f sofar a n few q stands end fault due = record {
     sofar = sofar;
@@ -80,7 +80,7 @@ module _ (p : Span) where
     lines = n;
     few = few;
     tail = q.0;
-    stands = stands ∙ before_written (take n (contents_lines sofar)) q.0;
+    stands = stands ∙ lines_then_written (take n (contents_lines sofar)) q.0;
     fault = fault ∙ ap (λ e. fault_at (q.0, e)) end;
     due = due;
   }
@@ -93,47 +93,47 @@ module _ (p : Span) where
   abbrev any_pile : Pile
   any_pile = record { in_turn = false; broadcast = Relay; consensus = Flood }
 
-  after_events : (c : Contents) (q : Span) → p.0 ≡ before (contents_lines c) q.0 → q.1 ≡ p.1 → ContentsAllowed c → Whole (Ok (c, q))
-  after_events c q stands end a = (stands ∙ before_written (contents_lines c) q.0, end, a)
+  after_events : (c : Contents) (q : Span) → p.0 ≡ lines_then (contents_lines c) q.0 → q.1 ≡ p.1 → ContentsAllowed c → Whole (Ok (c, q))
+  after_events c q stands end a = (stands ∙ lines_then_written (contents_lines c) q.0, end, a)
 
-  after_notes : (k : NoteKind) (c : ℕ) (l : Pile) (n : ℕ) (q : Span) → p.0 ≡ before (kind_text k ∷ count_text (codes "cards") c ∷ pile_text l ∷ count_text (codes "notes") n ∷ []) q.0 → q.1 ≡ p.1
+  after_notes : (k : NoteKind) (c : ℕ) (l : Pile) (n : ℕ) (q : Span) → p.0 ≡ lines_then (kind_text k ∷ count_text (codes "cards") c ∷ pile_text l ∷ count_text (codes "notes") n ∷ []) q.0 → q.1 ≡ p.1
       → Between 1 6 c → Between 0 32 n → Whole (with_notes k c l (n, q))
   after_notes k c l n q stands end cs ns =
       split (line_by (count_of (codes "events") 0 4096) q) (with_events k c l n) Whole
       (λ v e.
       let o = events_one q v e in
       after_events (record { kind = k; cards = c; pile = l; notes = n; events = v.0 }) v.1
-      (stands ∙ ap (before (kind_text k ∷ count_text (codes "cards") c ∷ pile_text l ∷ count_text (codes "notes") n ∷ [])) o.0) (o.1 ∙ end) (cs, ns, o.2))
+      (stands ∙ ap (lines_then (kind_text k ∷ count_text (codes "cards") c ∷ pile_text l ∷ count_text (codes "notes") n ∷ [])) o.0) (o.1 ∙ end) (cs, ns, o.2))
       (λ f e.
       stop f (record { kind = k; cards = c; pile = l; notes = n; events = 0 }) (cs, ns, (omega arith, omega arith)) 4 (omega arith) q stands end
       (one_fault (count_of (codes "events") 0 4096) anywhere (count_text (codes "events")) (Between 0 4096) events_read q f e)
       (λ d more a. one_due (count_of (codes "events") 0 4096) anywhere (count_text (codes "events")) (Between 0 4096) events_read q f e d.events more a.2))
 
-  after_pile : (k : NoteKind) (c : ℕ) (l : Pile) (q : Span) → p.0 ≡ before (kind_text k ∷ count_text (codes "cards") c ∷ pile_text l ∷ []) q.0 → q.1 ≡ p.1
+  after_pile : (k : NoteKind) (c : ℕ) (l : Pile) (q : Span) → p.0 ≡ lines_then (kind_text k ∷ count_text (codes "cards") c ∷ pile_text l ∷ []) q.0 → q.1 ≡ p.1
       → Between 1 6 c → Whole (with_pile k c (l, q))
   after_pile k c l q stands end cs =
       split (line_by (count_of (codes "notes") 0 32) q) (with_notes k c l) Whole
       (λ n e.
       let o = notes_one q n e in
-      after_notes k c l n.0 n.1 (stands ∙ ap (before (kind_text k ∷ count_text (codes "cards") c ∷ pile_text l ∷ [])) o.0) (o.1 ∙ end) cs o.2)
+      after_notes k c l n.0 n.1 (stands ∙ ap (lines_then (kind_text k ∷ count_text (codes "cards") c ∷ pile_text l ∷ [])) o.0) (o.1 ∙ end) cs o.2)
       (λ f e.
       stop f (record { kind = k; cards = c; pile = l; notes = 0; events = 0 }) (cs, (omega arith, omega arith), (omega arith, omega arith)) 3 (omega arith) q stands end
       (one_fault (count_of (codes "notes") 0 32) anywhere (count_text (codes "notes")) (Between 0 32) notes_read q f e)
       (λ d more a. one_due (count_of (codes "notes") 0 32) anywhere (count_text (codes "notes")) (Between 0 32) notes_read q f e d.notes more a.1))
 
-  after_cards : (k : NoteKind) (c : ℕ) (q : Span) → p.0 ≡ before (kind_text k ∷ count_text (codes "cards") c ∷ []) q.0 → q.1 ≡ p.1 → Between 1 6 c → Whole (with_cards k (c, q))
+  after_cards : (k : NoteKind) (c : ℕ) (q : Span) → p.0 ≡ lines_then (kind_text k ∷ count_text (codes "cards") c ∷ []) q.0 → q.1 ≡ p.1 → Between 1 6 c → Whole (with_cards k (c, q))
   after_cards k c q stands end cs =
       split (line_by pile_of q) (with_pile k c) Whole
-      (λ l e. let o = pile_one q l e in after_pile k c l.0 l.1 (stands ∙ ap (before (kind_text k ∷ count_text (codes "cards") c ∷ [])) o.0) (o.1 ∙ end) cs)
+      (λ l e. let o = pile_one q l e in after_pile k c l.0 l.1 (stands ∙ ap (lines_then (kind_text k ∷ count_text (codes "cards") c ∷ [])) o.0) (o.1 ∙ end) cs)
       (λ f e.
       stop f (record { kind = k; cards = c; pile = any_pile; notes = 0; events = 0 }) (cs, (omega arith, omega arith), (omega arith, omega arith)) 2 (omega arith) q stands end
       (one_fault pile_of anywhere pile_text Always pile_reads q f e)
       (λ d more a. one_due pile_of anywhere pile_text Always pile_reads q f e d.pile more tt))
 
-  after_kind : (k : NoteKind) (q : Span) → p.0 ≡ before (kind_text k ∷ []) q.0 → q.1 ≡ p.1 → Whole (with_kind (k, q))
+  after_kind : (k : NoteKind) (q : Span) → p.0 ≡ lines_then (kind_text k ∷ []) q.0 → q.1 ≡ p.1 → Whole (with_kind (k, q))
   after_kind k q stands end =
       split (line_by (count_of (codes "cards") 1 6) q) (with_cards k) Whole
-      (λ c e. let o = cards_one q c e in after_cards k c.0 c.1 (stands ∙ ap (before (kind_text k ∷ [])) o.0) (o.1 ∙ end) o.2)
+      (λ c e. let o = cards_one q c e in after_cards k c.0 c.1 (stands ∙ ap (lines_then (kind_text k ∷ [])) o.0) (o.1 ∙ end) o.2)
       (λ f e.
       stop f (record { kind = k; cards = 1; pile = any_pile; notes = 0; events = 0 }) ((omega arith, omega arith), (omega arith, omega arith), (omega arith, omega arith)) 1 (omega arith) q stands end
       (one_fault (count_of (codes "cards") 1 6) anywhere (count_text (codes "cards")) (Between 1 6) cards_read q f e)
@@ -148,7 +148,7 @@ module _ (p : Span) where
       (one_fault kind_of anywhere kind_text Always kind_reads p f e)
       (λ d more a. one_due kind_of anywhere kind_text Always kind_reads p f e d.kind more tt))
 
-contents_back : (c : Contents) (r : List ℕ) (e : ℕ) → ContentsAllowed c → contents_of (before (contents_lines c) r, e) ≡ Ok (c, (r, e))
+contents_back : (c : Contents) (r : List ℕ) (e : ℕ) → ContentsAllowed c → contents_of (lines_then (contents_lines c) r, e) ≡ Ok (c, (r, e))
 contents_back c r e a =
     let events = count_text (codes "events") c.events ++ (10 ∷ r) in
     let notes = count_text (codes "notes") c.notes ++ (10 ∷ events) in
@@ -161,7 +161,7 @@ contents_back c r e a =
     ∙ ap (λ s. and_then s (with_events c.kind c.cards c.pile c.notes)) (one_back (count_of (codes "events") 0 4096) anywhere (count_text (codes "events")) (Between 0 4096) events_read c.events r e a.2)
 
 pub contents_read_back : (c : Contents) (r : List ℕ) (e : ℕ) → ContentsAllowed c → contents_of (contents_text c ++ r, e) ≡ Ok (c, (r, e))
-contents_read_back c r e a = ap (λ t. contents_of (t, e)) (sym (before_written (contents_lines c) r)) ∙ contents_back c r e a
+contents_read_back c r e a = ap (λ t. contents_of (t, e)) (sym (lines_then_written (contents_lines c) r)) ∙ contents_back c r e a
 
 says_with : (p : Span) (r : Result (Contents × Span) LineFault) → r ≡ contents_of p → Whole p r → ContentsSays p r
 unfolding ContentsSays

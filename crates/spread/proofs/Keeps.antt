@@ -1,22 +1,23 @@
 -- `new` and the calls make spreads that hold together.
 use Rattle.std.proofs.Common.{◌≡◌, ℕ, ◌<◌, Bool, true, false, ◌&&◌, ◌||◌, eqb, length, set, is_some, Some, None, sym, refl, ap, ◌∙◌, subst, ⊎_elim, arith, length-set}
 use borrow.Author.Tests.{clash}
-use Rattle.std.specs.List.{slice_get, remove}
+use Rattle.std.specs.List.{slice_get, remove, list_any}
 use Rattle.std.proofs.ByRecursion.{All-append, All-weaker}
-use Rattle.std.proofs.lemmas.Bool.{or_cases, or_left, or_right, or_parts, and_parts, and_from, eqb-true, eqb-false, eq-eqb, ne_eqb, not-true, not_from_false, cases_Bool}
+use Rattle.std.proofs.lemmas.List.Folds.{list_any-append}
+use Rattle.std.proofs.lemmas.Bool.{or_cases, or_left, or_right, and_parts, and_from, eqb-true, eqb-false, eq-eqb, ne_eqb, not-true, not_from_false, cases_Bool}
 use Rattle.std.proofs.lemmas.Bool.Decides.{nat_tests}
 use Rattle.notes.specs.Sets.{has}
 use Rattle.notes.proofs.Bits.{has_none}
-use Rattle.cards.specs.Cards.{crashed_in}
+use Rattle.cards.specs.Cards.{crashed_in, Running}
 use Rattle.tables.specs.Tables.{poster_in, set_in}
-use Rattle.wire.specs.Wires.{sent, elsewhere, any_of}
+use Rattle.wire.specs.Wires.{sent, elsewhere}
 use Rattle.wire.specs.declared.Item.{Item}
 use Rattle.tables.proofs.Changes.{posted_more, posted_below, poster_each, noted_more, noted_others_stay, noted_fits}
-use Rattle.wire.proofs.Items.{all_removed, all_nth, all_left, all_sent_are, any_append, any_split, any_left, any_sent}
-use Rattle.cards.proofs.Lists.{same_all}
-use Rattle.cards.proofs.Nets.{new_sound, crash_sound, crash_more, suspect_sound}
+use Rattle.wire.proofs.Items.{all_removed, all_nth, all_left, all_sent_are, any_split, any_left, any_sent}
+use Rattle.parts.proofs.Lists.{same_all}
+use Rattle.cards.proofs.Nets.{new_sound, crash_sound, crash_more, suspect_sound, up_before}
 use Rattle.spread.specs.Spread.{SpreadState, lacks, new_spread, relay_on, meet_on, posted_by, post_on, without_item, crash_on, suspect_on}
-use Rattle.spread.specs.Made.{Underway, brings, SoundSpread, MadeSpread}
+use Rattle.spread.specs.Made.{Underway, brings, SoundSpread, Delivers, relayed_to, MadeSpread}
 use Rattle.spread.proofs.Rooms.{lacks_parts, lacks_not, meet_cases}
 
 pub new_made : (n : ℕ) → MadeSpread (new_spread n)
@@ -35,15 +36,12 @@ new_made n =
         fits = λ p. let z : set_in (new_spread n).relayed p ≡ 0 = same_all 6 p 0 in omega arith;
       };
       poster_relayed = λ m p h. absurd (nobody m p h);
-      due = λ p q m _ _ _ _ h. absurd (none p m h);
+      due = λ p q m _ _ h. absurd (none p m h);
     }
 
 -- A card meets a note.
 
-abbrev pub Running : SpreadState → ℕ → Type 0
-Running x p = (p < x.cards.count) × (crashed_in x.cards p ≡ false)
-
-relay_sound : (x : SpreadState) (p m : ℕ) → SoundSpread x → Running x p → is_some (poster_in x.posters m) ≡ true → lacks x p m ≡ true → SoundSpread (relay_on x p m)
+relay_sound : (x : SpreadState) (p m : ℕ) → SoundSpread x → Running x.cards p → is_some (poster_in x.posters m) ≡ true → lacks x p m ≡ true → SoundSpread (relay_on x p m)
 relay_sound x p m g r posted h =
     let l = lacks_parts x p m h in
     let s : p < length x.relayed = omega (arith, r.0, g.sets, g.sound.few) in
@@ -62,7 +60,7 @@ relay_sound x p m g r posted h =
       fits = λ q. noted_fits x.relayed p m q s g.fits;
     }
 
-meet_sound : (x : SpreadState) (p m : ℕ) → SoundSpread x → Running x p → is_some (poster_in x.posters m) ≡ true → SoundSpread (meet_on x p m)
+meet_sound : (x : SpreadState) (p m : ℕ) → SoundSpread x → Running x.cards p → is_some (poster_in x.posters m) ≡ true → SoundSpread (meet_on x p m)
 meet_sound x p m g r posted = meet_cases SoundSpread x p m (relay_sound x p m g r posted) (λ _. g)
 
 covered : (a b : Bool) → (b ≡ true → a ≡ true) → a ≡ (a || b)
@@ -77,15 +75,13 @@ meet_relays x p m q k g l j =
     (λ h. noted_more x.relayed p m q k (omega (arith, g.sets, g.sound.few)) j)
     (λ h. covered _ _ (λ e. let b = and_parts _ _ e in rw (eqb-true q p b.0, eqb-true k m b.1) (lacks_not x p m l j h)))
 
--- What a running card has relayed has got to each running card, or is on its way there: `got p q m` says what it means to have got from p to q.
-abbrev pub Delivers : (ℕ → ℕ → ℕ → Bool) → SpreadState → Type 0
-Delivers got x = (p q m : ℕ) → Running x p → Running x q → has (set_in x.relayed p) m ≡ true → (got p q m || any_of (brings p q m) x.wire) ≡ true
+-- What is due stays so.
 
 module _ (got : ℕ → ℕ → ℕ → Bool) (x : SpreadState) where
-  relay_delivers : (p m : ℕ) → SoundSpread x → Running x p → got p p m ≡ true → Delivers got x → lacks x p m ≡ true → Delivers got (relay_on x p m)
+  relay_delivers : (p m : ℕ) → SoundSpread x → Running x.cards p → got p p m ≡ true → Delivers got x → lacks x p m ≡ true → Delivers got (relay_on x p m)
   relay_delivers p m g r own d h a b k ra rb e =
       let l = lacks_parts x p m h in
-      let old = any_append (brings a b k) x.wire (sent x.cards p m x.cards.count) in
+      let old = list_any-append (brings a b k) x.wire (sent x.cards p m x.cards.count) in
       ⊎_elim
       (λ t. let due = d a b k ra rb t in grind (arith, nat_tests, old, due))
       (λ t. let s = and_parts _ _ t in
@@ -99,12 +95,12 @@ module _ (got : ℕ → ℕ → ℕ → Bool) (x : SpreadState) where
       (cases_Bool (eqb b p)))
       (or_cases _ _ (sym (noted_more x.relayed p m a k (omega (arith, r.0, g.sets, g.sound.few)) l.1) ∙ e))
 
-  pub meet_delivers : (p m : ℕ) → SoundSpread x → Running x p → got p p m ≡ true → Delivers got x → Delivers got (meet_on x p m)
+  pub meet_delivers : (p m : ℕ) → SoundSpread x → Running x.cards p → got p p m ≡ true → Delivers got x → Delivers got (meet_on x p m)
   meet_delivers p m g r own d = meet_cases (Delivers got) x p m (relay_delivers p m g r own d) (λ _. d)
 
   pub more_delivers : (more : ℕ → ℕ → ℕ → Bool) → ((p q m : ℕ) → got p q m ≡ true → more p q m ≡ true) → Delivers got x → Delivers more x
   more_delivers more still d a b k ra rb h =
-      ⊎_elim (λ t. or_left (more a b k) (any_of (brings a b k) x.wire) (still a b k t)) (λ t. or_right (more a b k) (any_of (brings a b k) x.wire) t) (or_cases (got a b k) (any_of (brings a b k) x.wire) (d a b k ra rb h))
+      ⊎_elim (λ t. or_left (more a b k) (list_any (brings a b k) x.wire) (still a b k t)) (λ t. or_right (more a b k) (list_any (brings a b k) x.wire) t) (or_cases (got a b k) (list_any (brings a b k) x.wire) (d a b k ra rb h))
 
   -- An item that is carried has got there.
   pub taken_delivers : (more : ℕ → ℕ → ℕ → Bool) (i : ℕ) (y : Item ℕ) → slice_get x.wire i ≡ Some y → ((p q m : ℕ) → got p q m ≡ true → more p q m ≡ true) → more y.from y.to y.load ≡ true → Delivers got x → Delivers more (without_item x i)
@@ -128,22 +124,12 @@ module _ (got : ℕ → ℕ → ℕ → Bool) (x : SpreadState) where
 
   pub crash_delivers : (p : ℕ) → SoundSpread x → p < x.cards.count → Delivers got x → Delivers got (crash_on x p)
   crash_delivers p g l d a b k ra rb h =
-      let va = or_parts _ _ (sym (crash_more x.cards p a g.sound l) ∙ ra.1) in
-      let vb = or_parts _ _ (sym (crash_more x.cards p b g.sound l) ∙ rb.1) in
+      let va = up_before x.cards p a g.sound l ra.1 in
+      let vb = up_before x.cards p b g.sound l rb.1 in
       ⊎_elim
       (λ t. or_left _ _ t)
       (λ t. or_right _ _ (any_left (brings a b k) (elsewhere p) x.wire (λ y z. not_from_false _ (ne_eqb y.to p (λ e. eqb-false b p vb.0 (sym (eqb-true _ _ (and_parts _ _ (and_parts _ _ z).1).0) ∙ e)))) t))
       (or_cases _ _ (d a b k (ra.0, va.1) (rb.0, vb.1) h))
-
--- In a spread, to have got a note is to have relayed it.
-abbrev relayed_to : SpreadState → ℕ → ℕ → ℕ → Bool
-relayed_to x p q m = has (set_in x.relayed q) m
-
-made_due : (x : SpreadState) → MadeSpread x → Delivers (relayed_to x) x
-made_due x g p q m rp rq = g.due p q m rp.0 rq.0 rp.1 rq.1
-
-made_from : (x : SpreadState) → SoundSpread x → ((m p : ℕ) → poster_in x.posters m ≡ Some p → has (set_in x.relayed p) m ≡ true) → Delivers (relayed_to x) x → MadeSpread x
-made_from x g posters d = record { whole = g; poster_relayed = posters; due = λ p q m hp hq up uq. d p q m (hp, up) (hq, uq) }
 
 -- A post.
 
@@ -169,11 +155,12 @@ post_made x p m g l up j =
     let s = posted_sound x p m g.whole l j in
     let more : (q k : ℕ) → _ = λ q k. meet_relays y p m q k s l j in
     let own : (has (set_in x.relayed p) m || (eqb p p && eqb m m)) ≡ true = or_right _ _ (and_from _ _ (eq-eqb p p refl) (eq-eqb m m refl)) in
-    made_from (post_on x p m)
-    (meet_sound y p m s (l, up) (posted_more x.posters m p m w ∙ or_left _ _ (eq-eqb m m refl)))
-    (poster_each (λ k q. has (set_in (post_on x p m).relayed q) k ≡ true) x.posters m p w (more p m ∙ own) (λ k q e. more q k ∙ or_left _ _ (g.poster_relayed k q e)))
-    (meet_delivers (relayed_to (post_on x p m)) y p m s (l, up) (more p m ∙ own)
-    (more_delivers (relayed_to x) x (relayed_to (post_on x p m)) (λ _ q k h. more q k ∙ or_left _ _ h) (made_due x g)))
+    record {
+      whole = meet_sound y p m s (l, up) (posted_more x.posters m p m w ∙ or_left _ _ (eq-eqb m m refl));
+      poster_relayed = poster_each (λ k q. has (set_in (post_on x p m).relayed q) k ≡ true) x.posters m p w (more p m ∙ own) (λ k q e. more q k ∙ or_left _ _ (g.poster_relayed k q e));
+      due = meet_delivers (relayed_to (post_on x p m)) y p m s (l, up) (more p m ∙ own)
+          (more_delivers (relayed_to x) x (relayed_to (post_on x p m)) (λ _ q k h. more q k ∙ or_left _ _ h) g.due);
+    }
 
 -- A carry.
 
@@ -202,36 +189,38 @@ receive_made x i y g e =
     let more : (q k : ℕ) → _ = λ q k. meet_relays z y.to y.load q k s u.card j in
     let own : (has (set_in x.relayed y.to) y.load || (eqb y.to y.to && eqb y.load y.load)) ≡ true = or_right _ _ (and_from _ _ (eq-eqb y.to y.to refl) (eq-eqb y.load y.load refl)) in
     let after = meet_on z y.to y.load in
-    made_from after
-    (meet_sound z y.to y.load s (u.card, u.up) u.posted)
-    (λ m p h. more p m ∙ or_left _ _ (g.poster_relayed m p h))
-    (meet_delivers (relayed_to after) z y.to y.load s (u.card, u.up) (more y.to y.load ∙ own)
-    (taken_delivers (relayed_to x) x (relayed_to after) i y e (λ _ q m h. more q m ∙ or_left _ _ h) (more y.to y.load ∙ own) (made_due x g)))
+    record {
+      whole = meet_sound z y.to y.load s (u.card, u.up) u.posted;
+      poster_relayed = λ m p h. more p m ∙ or_left _ _ (g.poster_relayed m p h);
+      due = meet_delivers (relayed_to after) z y.to y.load s (u.card, u.up) (more y.to y.load ∙ own)
+          (taken_delivers (relayed_to x) x (relayed_to after) i y e (λ _ q m h. more q m ∙ or_left _ _ h) (more y.to y.load ∙ own) g.due);
+    }
 
 -- A loss, a crash, a suspicion.
 
 pub lose_made : (x : SpreadState) (i : ℕ) (y : Item ℕ) → MadeSpread x → slice_get x.wire i ≡ Some y → crashed_in x.cards y.from ≡ true → MadeSpread (without_item x i)
 lose_made x i y g e down =
-    made_from (without_item x i) (removed_sound x i g.whole) g.poster_relayed (lost_delivers (relayed_to x) x i y e down (made_due x g))
+    record { whole = removed_sound x i g.whole; poster_relayed = g.poster_relayed; due = lost_delivers (relayed_to x) x i y e down g.due }
 
 pub crash_made : (x : SpreadState) (p : ℕ) → MadeSpread x → p < x.cards.count → MadeSpread (crash_on x p)
 crash_made x p g l =
     let c = x.cards in
     let s = g.whole in
-    made_from (crash_on x p)
-    (record {
-      sound = crash_sound c p s.sound l;
-      notes = s.notes;
-      sets = s.sets;
-      posters_cards = s.posters_cards;
-      items = all_left (Underway x) (Underway (crash_on x p)) (elsewhere p) x.wire
-          (λ y u k. record { sender = u.sender; card = u.card; up = crash_more c p y.to s.sound l ∙ ap (λ b. b || crashed_in c y.to) (not-true _ k) ∙ u.up; posted = u.posted; by_relayer = u.by_relayer }) s.items;
-      relayed_posted = s.relayed_posted;
-      outside = s.outside;
-      fits = s.fits;
-    })
-    g.poster_relayed
-    (crash_delivers (relayed_to x) x p s l (made_due x g))
+    record {
+      whole = record {
+        sound = crash_sound c p s.sound l;
+        notes = s.notes;
+        sets = s.sets;
+        posters_cards = s.posters_cards;
+        items = all_left (Underway x) (Underway (crash_on x p)) (elsewhere p) x.wire
+            (λ y u k. record { sender = u.sender; card = u.card; up = crash_more c p y.to s.sound l ∙ ap (λ b. b || crashed_in c y.to) (not-true _ k) ∙ u.up; posted = u.posted; by_relayer = u.by_relayer }) s.items;
+        relayed_posted = s.relayed_posted;
+        outside = s.outside;
+        fits = s.fits;
+      };
+      poster_relayed = g.poster_relayed;
+      due = crash_delivers (relayed_to x) x p s l g.due;
+    }
 
 pub suspect_made : (x : SpreadState) (q p : ℕ) → MadeSpread x → q < x.cards.count → p < x.cards.count → crashed_in x.cards p ≡ true → MadeSpread (suspect_on x q p)
 suspect_made x q p g hq hp down =

@@ -9,7 +9,7 @@ use Rattle.tables.specs.Tables.{poster_in}
 use Rattle.wire.specs.Wires.{sent, elsewhere}
 use Rattle.tables.proofs.Changes.{posted_more, noted_more}
 use Rattle.wire.proofs.Items.{length_left}
-use Rattle.cards.proofs.Lists.{same_all}
+use Rattle.parts.proofs.Lists.{same_all}
 use Rattle.cards.proofs.Nets.{crash_more}
 use Rattle.wire.proofs.Wires.{length_sent_others}
 use Rattle.spread.specs.Counts.{pairs}
@@ -19,8 +19,8 @@ use Rattle.spread.proofs.Pairs.{pairs_none, pairs_le, pairs_lt, pairs_grow}
 use Rattle.spread.proofs.Rooms.{lacks_parts, meet_cases}
 
 -- A factor for each of fewer, and for each of a few more.
-one_less : (k a b : ℕ) → a < b → k * a + k ≤ k * b
-one_less k a b h =
+one_factor_less : (k a b : ℕ) → a < b → k * a + k ≤ k * b
+one_factor_less k a b h =
     let l : a + 1 ≤ b = omega arith in
     let m : k * (a + 1) ≤ k * b = mul-le-mul_left k l in
     omega (arith, mul-add k a 1, mul-one k)
@@ -52,7 +52,7 @@ relay_work x p m six few up posted h =
     (λ q k _ _ t. let a = more q k in grind (arith, nat_tests, a, t)) l.0 l.1
     (let a = more p m in let b = eq-eqb p p refl in let c = eq-eqb m m refl in grind (arith, nat_tests, a, b, c))
     (and_from _ _ (not_from_false _ up) (and_from _ _ posted (not_from_false _ l.2))) in
-    omega (arith, one_less (n - 1) _ _ less, length-append x.wire (sent x.cards p m n), length_sent_others x.cards p m n l.0)
+    omega (arith, one_factor_less (n - 1) _ _ less, length-append x.wire (sent x.cards p m n), length_sent_others x.cards p m n l.0)
 
 pub meet_work : (x : SpreadState) (p m : ℕ) → SoundSpread x → crashed_in x.cards p ≡ false → is_some (poster_in x.posters m) ≡ true → spread_work (meet_on x p m) ≤ spread_work x
 meet_work x p m g up posted = meet_cases (λ z. spread_work z ≤ spread_work x) x p m (relay_work x p m g.sets g.sound.few up posted) (λ _. omega arith)

@@ -1,12 +1,11 @@
 -- Counting cards and notes together.
-use Rattle.std.specs.Prelude.{ℕ, zero, suc, ◌+◌, Bool, not, List}
-use Rattle.notes.specs.Sets.{has, how_many}
+use Rattle.std.specs.Prelude.{ℕ, Bool, not, List}
+use Rattle.notes.specs.Sets.{has, how_many, total}
 use Rattle.tables.specs.Tables.{set_in}
 
 -- How many pairs of a card below n and a note below k pass a test.
 abbrev pub pairs : (ℕ → ℕ → Bool) → ℕ → ℕ → ℕ
-pairs f zero k = 0
-pairs f (suc n) k = pairs f n k + how_many (f n) k
+pairs f n k = total (λ p. how_many (f p) k) n
 
 -- How often some card may still relay some note.
 unfoldable pub unrelayed : List ℕ → ℕ

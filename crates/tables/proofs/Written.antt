@@ -3,7 +3,7 @@ use Rattle.std.proofs.Common.{◌≡◌, ℕ, ◌<◌, true, cond, ◌&&◌, ◌
 use borrow.Author.Tests.{clash}
 use Rattle.std.proofs.lemmas.List.{get_or_past}
 use Rattle.std.proofs.lemmas.Bool.{cases_lt}
-use Rattle.cards.proofs.Lists.{new_row, row_written, rows_kept}
+use Rattle.parts.proofs.Lists.{new_row, row_written, rows_kept}
 use Rattle.tables.specs.Tables.{Shaped, ballot_in}
 
 pub new_shaped : {X : Type 0} (d : X) → Shaped (replicate 32 (replicate 6 d))

@@ -14,9 +14,9 @@ read_bytes p =
     (elim (numeral p.0) as (λ o. numeral p.0 ≡ o → field_bytes (number_or p o) ≡ p.0)
     [ None ↦ λ e. refl | Some n ↦ λ e. sym (numeral_only p.0 n e).1 ]) refl
 
-some_mapped : {A B : Type 0} (f : A → B) (o : Option A) (y : B) → option_map f o ≡ Some y → (x : A) × (o ≡ Some x) × (f x ≡ y)
-some_mapped f None y e = absurd (grind arith)
-some_mapped f (Some x) y e = (x, refl, cc)
+pub mapped_some : {A B : Type 0} (f : A → B) (o : Option A) (y : B) → option_map f o ≡ Some y → (x : A) × (o ≡ Some x) × (f x ≡ y)
+mapped_some f None y e = absurd (grind arith)
+mapped_some f (Some x) y e = (x, refl, cc)
 
 spaced_more : (w : List ℕ) (fs : List (List ℕ)) (r : List ℕ) → 0 < length fs → r ≡ spaced fs → w ++ (32 ∷ r) ≡ spaced (w ∷ fs)
 spaced_more w [] r h e = absurd (omega arith)
@@ -27,7 +27,7 @@ some_fields zero p fs e = absurd (grind arith)
 some_fields (suc k) p fs e =
     (elim (after 32 p) as (λ o. fields_after (read_field (before 32 p)) (cut_fields k) o ≡ Some fs → 0 < length (map field_bytes fs)) [
       | None ↦ λ b. let t : read_field (before 32 p) ∷ [] ≡ fs = cc in subst (λ gs. 0 < length (map field_bytes gs)) t (omega arith)
-      | Some r ↦ λ b. let s = some_mapped (λ gs. read_field (before 32 p) ∷ gs) (cut_fields k r) fs b in subst (λ gs. 0 < length (map field_bytes gs)) s.2 (omega arith)
+      | Some r ↦ λ b. let s = mapped_some (λ gs. read_field (before 32 p) ∷ gs) (cut_fields k r) fs b in subst (λ gs. 0 < length (map field_bytes gs)) s.2 (omega arith)
     ]) e
 
 pub fields_only : (k : ℕ) (p : Span) (fs : List Cut) → cut_fields k p ≡ Some fs → p.0 ≡ spaced (map field_bytes fs)
@@ -39,7 +39,7 @@ fields_only (suc k) p fs e =
           let t : read_field (before 32 p) ∷ [] ≡ fs = cc in
           sym (uncut_only 32 p a) ∙ sym first ∙ sym (append-nil _) ∙ ap (λ gs. spaced (map field_bytes gs)) t
       | Some r ↦ λ a b.
-          let s = some_mapped (λ gs. read_field (before 32 p) ∷ gs) (cut_fields k r) fs b in
+          let s = mapped_some (λ gs. read_field (before 32 p) ∷ gs) (cut_fields k r) fs b in
           let ih = fields_only k r s.0 s.1 in
           (cut_only 32 p r a).0 ∙ ap (λ w. w ++ (32 ∷ r.0)) (sym first)
           ∙ spaced_more (field_bytes (read_field (before 32 p))) (map field_bytes s.0) r.0 (some_fields k r s.0 s.1) ih

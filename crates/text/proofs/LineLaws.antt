@@ -4,7 +4,7 @@ use Rattle.std.proofs.lemmas.List.{take_at, drop_at}
 use Rattle.std.proofs.lemmas.Bool.{cases_Bool, cond-true, cond-false, eqb-true, eq-eqb, ne_eqb}
 use Rattle.std.specs.Option.{option_map}
 use Rattle.text.specs.declared.fault.LineFault.{LineFault}
-use Rattle.text.specs.Parts.{Span, place_of, up_to, before, tail_of, after, fault_at, ended, line_of}
+use Rattle.text.specs.Parts.{Span, place_of, up_to, before, tail_of, after, fault_at, line_ended, line_of}
 use Rattle.text.specs.Written.{Free}
 
 pub free_append : (stop : ℕ) (v w : List ℕ) → Free stop v → Free stop w → Free stop (v ++ w)
@@ -78,7 +78,7 @@ before_place p =
 -- A line that is cut out stands first, with byte 10 after it, and starts where the part starts.
 pub line_only : (p : Span) (q : Span × Span) → line_of p ≡ Ok q → (p.0 ≡ q.0.0 ++ (10 ∷ q.1.0)) × (q.1.1 ≡ p.1) × (place_of q.0 ≡ place_of p)
 line_only p q e =
-    (elim (after 10 p) as (λ o. after 10 p ≡ o → ended p o ≡ Ok q → (p.0 ≡ q.0.0 ++ (10 ∷ q.1.0)) × (q.1.1 ≡ p.1) × (place_of q.0 ≡ place_of p)) [
+    (elim (after 10 p) as (λ o. after 10 p ≡ o → line_ended p o ≡ Ok q → (p.0 ≡ q.0.0 ++ (10 ∷ q.1.0)) × (q.1.1 ≡ p.1) × (place_of q.0 ≡ place_of p)) [
       | None ↦ λ a b. absurd (grind arith)
       | Some r ↦ λ a b.
           let t : (before 10 p, r) ≡ q = cc in
@@ -91,8 +91,8 @@ line_only p q e =
 pub line_back : (l r : List ℕ) (e : ℕ) → Free 10 l → line_of (l ++ (10 ∷ r), e) ≡ Ok ((l, e - suc (length r)), (r, e))
 line_back l r e f =
     let c = cut_back 10 l r e f in
-    ap (ended (l ++ (10 ∷ r), e)) c.1 ∙ ap (λ b. Ok (b, (r, e))) c.0
+    ap (line_ended (l ++ (10 ∷ r), e)) c.1 ∙ ap (λ b. Ok (b, (r, e))) c.0
 
 pub line_fault : (p : Span) (f : LineFault) → line_of p ≡ Err f → f ≡ fault_at p
 line_fault p f e =
-    (elim (after 10 p) as (λ o. ended p o ≡ Err f → f ≡ fault_at p) [ None ↦ λ b. cc | Some r ↦ λ b. absurd (grind arith) ]) e
+    (elim (after 10 p) as (λ o. line_ended p o ≡ Err f → f ≡ fault_at p) [ None ↦ λ b. cc | Some r ↦ λ b. absurd (grind arith) ]) e

@@ -46,10 +46,10 @@ both_of (Err e) = Err e
 abbrev pub fault_at : Span → LineFault
 fault_at p = cond (length p.0 == 0) (Absent (place_of p)) (Wrong (place_of p))
 
-abbrev pub ended : Span → Option Span → Result (Span × Span) LineFault
-ended p None = Err (fault_at p)
-ended p (Some rest) = Ok (before 10 p, rest)
+abbrev pub line_ended : Span → Option Span → Result (Span × Span) LineFault
+line_ended p None = Err (fault_at p)
+line_ended p (Some rest) = Ok (before 10 p, rest)
 
 -- The first line, without the byte 10 that ends it, and what follows.
 abbrev pub line_of : Span → Result (Span × Span) LineFault
-line_of p = ended p (after 10 p)
+line_of p = line_ended p (after 10 p)

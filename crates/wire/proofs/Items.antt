@@ -1,13 +1,17 @@
 -- What holds of all items of a list, and of some, as items join, are taken and are let go.
-use Rattle.std.proofs.Common.{◌≡◌, ℕ, zero, suc, ◌<◌, ◌≤◌, Bool, true, cond, ◌||◌, List, [], ◌∷◌, ◌++◌, map, length, take, drop, Some, filter, refl, ap, ◌∙◌, subst, ⊎_elim, arith}
-use Rattle.std.specs.List.{slice_get, remove, AllByRecursion}
+use Rattle.std.proofs.Common.{◌≡◌, ℕ, zero, suc, ◌<◌, ◌≤◌, Bool, true, cond, ◌||◌, List, [], ◌∷◌, map, length, take, drop, Some, filter, ap, ◌∙◌, subst, ⊎_elim, arith}
+use Rattle.std.specs.List.{slice_get, remove, list_any, AllByRecursion}
 use Rattle.std.proofs.ByRecursion.{All-append, All-take, All-drop}
+use Rattle.std.proofs.lemmas.List.Folds.{list_any-append}
+use Rattle.std.proofs.lemmas.List.Sums.{length-filter, count_by-le-length}
 use Rattle.std.proofs.lemmas.Bool.{cases_lt, cond-true, cond_both, or_left, or_right, or_cases}
 use Rattle.std.proofs.lemmas.Bool.Decides.{nat_tests}
+-- For `flooding`, which still calls it `any_append`.
+pub use Rattle.std.proofs.lemmas.List.Folds.{list_any-append as any_append}
 use Rattle.parts.specs.Nets.{PartOf}
 use Rattle.parts.specs.Nets.PartOf.{none, stays, leaves}
 use Rattle.cards.specs.Cards.{CardState}
-use Rattle.wire.specs.Wires.{item, goes_to, sent, any_of}
+use Rattle.wire.specs.Wires.{item, goes_to, sent}
 use Rattle.wire.specs.declared.Item.{Item}
 
 -- All items.
@@ -33,32 +37,28 @@ all_sent_are P c from load (suc k) f =
 
 -- Some item.
 
-pub any_append : {X : Type 0} (t : X → Bool) (xs ys : List X) → any_of t (xs ++ ys) ≡ (any_of t xs || any_of t ys)
-any_append t [] ys = refl
-any_append t (x ∷ xs) ys = let e = any_append t xs ys in grind (arith, nat_tests, e)
-
 -- The item at a place, or one of the rest.
-pub any_split : {X : Type 0} (t : X → Bool) (xs : List X) (i : ℕ) (y : X) → slice_get xs i ≡ Some y → any_of t xs ≡ (t y || any_of t (remove xs i))
+pub any_split : {X : Type 0} (t : X → Bool) (xs : List X) (i : ℕ) (y : X) → slice_get xs i ≡ Some y → list_any t xs ≡ (t y || list_any t (remove xs i))
 any_split t [] i y e = absurd (let z : ◌≡◌ {A = ℕ} 0 1 = cc in omega arith)
-any_split t (x ∷ xs) zero y e = let z : x ≡ y = cc in ap (λ w. t w || any_of t xs) z
+any_split t (x ∷ xs) zero y e = let z : x ≡ y = cc in ap (λ w. t w || list_any t xs) z
 any_split t (x ∷ xs) (suc i) y e = let h = any_split t xs i y e in grind (arith, nat_tests, h)
 
-pub any_left : {X : Type 0} (t keep : X → Bool) (xs : List X) → ((x : X) → t x ≡ true → keep x ≡ true) → any_of t xs ≡ true → any_of t (filter keep xs) ≡ true
+pub any_left : {X : Type 0} (t keep : X → Bool) (xs : List X) → ((x : X) → t x ≡ true → keep x ≡ true) → list_any t xs ≡ true → list_any t (filter keep xs) ≡ true
 any_left t keep [] f h = h
 any_left t keep (x ∷ xs) f h =
     ⊎_elim
     (λ e. rw (cond-true (keep x) (x ∷ filter keep xs) (filter keep xs) (f x e)) (or_left _ _ e))
-    (λ e. cond_both (keep x) (x ∷ filter keep xs) (filter keep xs) (λ l. any_of t l ≡ true) (λ _. or_right _ _ (any_left t keep xs f e)) (λ _. any_left t keep xs f e))
+    (λ e. cond_both (keep x) (x ∷ filter keep xs) (filter keep xs) (λ l. list_any t l ≡ true) (λ _. or_right _ _ (any_left t keep xs f e)) (λ _. any_left t keep xs f e))
     (or_cases _ _ h)
 
-pub any_sent : {L : Type 0} (t : Item L → Bool) (c : CardState) (from : ℕ) (load : L) (k to : ℕ) → to < k → goes_to c from to ≡ true → t (item from to load) ≡ true → any_of t (sent c from load k) ≡ true
+pub any_sent : {L : Type 0} (t : Item L → Bool) (c : CardState) (from : ℕ) (load : L) (k to : ℕ) → to < k → goes_to c from to ≡ true → t (item from to load) ≡ true → list_any t (sent c from load k) ≡ true
 any_sent t c from load zero to l g h = absurd (omega arith)
 any_sent t c from load (suc k) to l g h =
-    any_append t (sent c from load k) (cond (goes_to c from k) (item from k load ∷ []) [])
+    list_any-append t (sent c from load k) (cond (goes_to c from k) (item from k load ∷ []) [])
     ∙ ⊎_elim
     (λ m. or_left _ _ (any_sent t c from load k to m g h))
     (λ m. let e : to ≡ k = omega arith in
-    or_right _ _ (ap (any_of t) (cond-true (goes_to c from k) (item from k load ∷ []) [] (subst (λ j. goes_to c from j ≡ true) e g)) ∙ or_left _ _ (subst (λ j. t (item from j load) ≡ true) e h)))
+    or_right _ _ (ap (list_any t) (cond-true (goes_to c from k) (item from k load ∷ []) [] (subst (λ j. goes_to c from j ≡ true) e g)) ∙ or_left _ _ (subst (λ j. t (item from j load) ≡ true) e h)))
     (cases_lt to k)
 
 -- The senders of what is left are a part of the senders.
@@ -72,5 +72,4 @@ part_all [] = none
 part_all (x ∷ xs) = stays x (part_all xs)
 
 pub length_left : {X : Type 0} (keep : X → Bool) (xs : List X) → length (filter keep xs) ≤ length xs
-length_left keep [] = omega arith
-length_left keep (x ∷ xs) = let h = length_left keep xs in cond_both (keep x) (x ∷ filter keep xs) (filter keep xs) (λ l. length l ≤ suc (length xs)) (λ _. omega arith) (λ _. omega arith)
+length_left keep xs = omega (arith, length-filter keep xs, count_by-le-length keep xs)

@@ -4,7 +4,7 @@ use Rattle.std.specs.List.{slice_get, remove}
 use Rattle.std.specs.Option.{option_map}
 use Rattle.std.proofs.lemmas.List.Edits.{length-remove}
 use Rattle.std.proofs.lemmas.List.{map-append, take-map, drop-map}
-use Rattle.std.proofs.lemmas.Option.{unwrap_or-slice_get}
+use Rattle.std.proofs.lemmas.Option.{slice_get-map, unwrap_or-slice_get}
 use Rattle.std.proofs.lemmas.Bool.{lt-ltb}
 use Rattle.parts.specs.Refusals.{carry_answer, lose_answer}
 use Rattle.parts.specs.Nets.{NetLost}
@@ -14,7 +14,7 @@ use Rattle.cards.specs.Cards.{CardState, crashed_in, net_of}
 use Rattle.wire.specs.Wires.{senders}
 use Rattle.wire.specs.declared.Item.{Item}
 use Rattle.cards.proofs.Nets.{same_cards}
-use Rattle.wire.proofs.Wires.{nth_there, nth_map, length_senders}
+use Rattle.wire.proofs.Wires.{nth_there, length_senders}
 
 module _ {P : Type 0} (c : CardState) (xs : List (Item P)) (k i : ℕ) where
   there : i < length xs → (y : Item P) × (slice_get xs i ≡ Some y)
@@ -32,7 +32,7 @@ module _ {P : Type 0} (c : CardState) (xs : List (Item P)) (k i : ℕ) where
       let f = lose_accepted (net_of c (senders xs) k) i h in
       let l : i < length xs = omega (arith, f.0, length_senders xs) in
       let t = there l in
-      let e : get_or (senders xs) i 7 ≡ t.0.from = sym (unwrap_or-slice_get (senders xs) i 7) ∙ ap (λ o. unwrap_or o 7) (nth_map (λ x. x.from) xs i ∙ ap (option_map (λ x. x.from)) t.1) in
+      let e : get_or (senders xs) i 7 ≡ t.0.from = sym (unwrap_or-slice_get (senders xs) i 7) ∙ ap (λ o. unwrap_or o 7) (slice_get-map (λ x. x.from) xs i ∙ ap (option_map (λ x. x.from)) t.1) in
       (t.0, t.1, l, subst (λ s. crashed_in c s ≡ true) e f.1)
 
 pub senders_removed : {P : Type 0} (xs : List (Item P)) (i : ℕ) → senders (remove xs i) ≡ remove (senders xs) i

@@ -1,8 +1,7 @@
 -- The wire: items by place, and room for what is sent.
-use Rattle.std.proofs.Common.{◌≡◌, ℕ, zero, suc, ◌+◌, ◌<◌, ◌≤◌, true, false, cond, ltb, List, [], ◌∷◌, ◌++◌, map, length, is_some, sym, refl, ap, ◌∙◌, ⊎_elim, append_assoc, append-nil, arith}
+use Rattle.std.proofs.Common.{◌≡◌, ℕ, zero, suc, ◌+◌, ◌<◌, ◌≤◌, true, false, cond, ltb, List, [], ◌∷◌, ◌++◌, length, is_some, sym, ap, ◌∙◌, ⊎_elim, append_assoc, append-nil, arith}
 use Rattle.std.specs.List.{slice_get}
-use Rattle.std.specs.Option.{option_map}
-use Rattle.std.proofs.lemmas.List.{length-append, length-map}
+use Rattle.std.proofs.lemmas.List.{nil_from_length, length-append, length-map}
 use Rattle.std.proofs.lemmas.Bool.{cases_Bool, cases_lt, cond-true, cond-false, cond_both, and_right, not_from_true, eq-eqb, lt-ltb, le-ltb}
 use Rattle.std.proofs.lemmas.Bool.Decides.{nat_tests}
 use Rattle.cards.specs.Cards.{CardState}
@@ -16,13 +15,12 @@ nth_there [] i = sym (le-ltb i 0 (omega arith))
 nth_there (x ∷ xs) zero = sym (lt-ltb 0 (suc (length xs)) (omega arith))
 nth_there (x ∷ xs) (suc i) = let e = nth_there xs i in grind (arith, nat_tests, e)
 
-pub nth_map : {X Y : Type 0} (f : X → Y) (xs : List X) (i : ℕ) → slice_get (map f xs) i ≡ option_map f (slice_get xs i)
-nth_map f [] i = refl
-nth_map f (x ∷ xs) zero = refl
-nth_map f (x ∷ xs) (suc i) = nth_map f xs i
-
 pub length_senders : {P : Type 0} (xs : List (Item P)) → length (senders xs) ≡ length xs
 length_senders xs = length-map xs (λ x. x.from)
+
+-- A wire without senders is empty.
+pub nothing_left : {P : Type 0} (xs : List (Item P)) → senders xs ≡ [] → xs ≡ []
+nothing_left xs e = nil_from_length xs (sym (length_senders xs) ∙ ap length e)
 
 -- All that is sent finds room, where there is room for so many.
 

@@ -1,5 +1,7 @@
 -- The wire: the items under way, in order; what joins its end, what is taken, and what a crash lets go.
-use Rattle.std.specs.Prelude.{ℕ, zero, suc, Bool, false, cond, not, ◌&&◌, ◌||◌, List, [], ◌∷◌, ◌++◌, map, length, filter, ◌==◌, nat_lt}
+use Rattle.std.specs.Prelude.{ℕ, zero, suc, Bool, cond, not, ◌&&◌, List, [], ◌∷◌, ◌++◌, map, length, filter, ◌==◌, nat_lt}
+-- For `flooding`, which still calls it `any_of`.
+pub use Rattle.std.specs.List.{list_any as any_of}
 use Rattle.wire.specs.declared.Item.{Item}
 use Rattle.cards.specs.Cards.{CardState, crashed_in}
 
@@ -11,11 +13,6 @@ pub record WireState (P : Type 0) : Type 0 where
 -- Nothing is sent to a crashed card, nor to the sender itself.
 abbrev pub goes_to : CardState → ℕ → ℕ → Bool
 goes_to c from to = not (crashed_in c to) && not (to == from)
-
--- Whether some item of a list passes a test.
-abbrev pub any_of : {X : Type 0} → (X → Bool) → List X → Bool
-any_of test [] = false
-any_of test (x ∷ xs) = test x || any_of test xs
 
 module _ {P : Type 0} where
   -- A wire with other items.

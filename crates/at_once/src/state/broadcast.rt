@@ -1,5 +1,5 @@
 ghost use Rattle.std.specs.Prelude.{◌≡◌};
-ghost use Rattle.at_once.specs.AtOnce.{AtOnceState, cards_in, has_crashed, suspecting, no_wire, no_work, posted_by, handed_in, new_at_once, post_on, unchanged, crash_on, suspect_on, hand_out};
+ghost use Rattle.at_once.specs.AtOnce.{AtOnceState, at_once_cards, at_once_crashed, at_once_suspects, at_once_wire, at_once_work, at_once_poster, at_once_handed, new_at_once, post_on, unchanged, crash_on, suspect_on, hand_out};
 ghost use Rattle.at_once.specs.Made.{MadeAtOnce};
 ghost use Rattle.std.proofs.Common.{arith};
 ghost use Rattle.at_once.specs.Means.{new_made, new_means, post_made, post_means, nothing_carried, nothing_lost, crash_made, crash_means, suspect_made, suspect_means, lawful};
@@ -19,19 +19,19 @@ impl Broadcast for AtOnce {
 
     ghost state = { λ b. b };
 
-    ghost cards = { cards_in };
+    ghost cards = { at_once_cards };
 
-    ghost crashed = { has_crashed };
+    ghost crashed = { at_once_crashed };
 
-    ghost suspects = { suspecting };
+    ghost suspects = { at_once_suspects };
 
-    ghost wire = { no_wire };
+    ghost wire = { at_once_wire };
 
-    ghost work = { no_work };
+    ghost work = { at_once_work };
 
-    ghost poster = { posted_by };
+    ghost poster = { at_once_poster };
 
-    ghost handed = { handed_in };
+    ghost handed = { at_once_handed };
 
     ghost made = { MadeAtOnce };
 
