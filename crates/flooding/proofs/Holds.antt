@@ -1,5 +1,5 @@
 -- That `new`, a loss and a crash make floodings which hold together as a whole, and what a loss and a crash mean of such a one.
-use Rattle.std.proofs.Common.{◌≡◌, ℕ, true, false, is_some, None, sym, ap, ◌∙◌, subst, inl, inr, ⊎_elim, arith, Ok}
+use Rattle.std.proofs.Common.{◌≡◌, ℕ, true, false, is_some, None, sym, ap, ◌∙◌, subst, inl, inr, ⊎_elim, eqb, arith, Ok}
 use borrow.Author.Tests.{clash}
 use Rattle.std.proofs.lemmas.Bool.{or_cases, both_ways}
 use Rattle.parts.specs.Refusals.{lose_answer, crash_answer}
@@ -9,8 +9,8 @@ use Rattle.cards.specs.Cards.{crashed_in, new_cards, with_crash}
 use Rattle.tables.specs.Tables.{new_ballots, ballot_in}
 use Rattle.wire.specs.Wires.{elsewhere}
 use Rattle.wire.proofs.Items.{all_removed, all_left, any_split}
-use Rattle.cards.proofs.Lists.{same_rows}
-use Rattle.cards.proofs.Nets.{new_sound, crash_sound}
+use Rattle.parts.proofs.Lists.{same_rows}
+use Rattle.cards.proofs.Nets.{new_sound, crash_sound, up_before}
 use Rattle.wire.proofs.Taken.{lost_item}
 use Rattle.histories.specs.Moves.{beginning}
 use Rattle.histories.proofs.Kept.{moves_make_histories}
@@ -18,7 +18,7 @@ use Rattle.flooding.specs.Seats.{no_seat, new_seats, seat_in}
 use Rattle.flooding.specs.Flooding.{FloodingState, flooding_work, seen, new_flooding, lose_on, crash_on}
 use Rattle.flooding.specs.Made.{fates_of, True, brings, Tied, Underway, MadeFlooding}
 use Rattle.tables.proofs.Written.{new_shaped}
-use Rattle.flooding.specs.Keeps.{new_ballot, new_stands, new_settled, up_before, crash_later, crash_items, crash_leaves, crash_moves}
+use Rattle.flooding.specs.Keeps.{new_ballot, new_stands, new_settled, crash_later, crash_items, crash_leaves, crash_moves}
 use Rattle.flooding.specs.Sound.{Stands}
 use Rattle.flooding.specs.Leaves.{brings_parts}
 use Rattle.flooding.specs.Means.{loss_is_lost, crash_is_crashed}
@@ -107,7 +107,7 @@ crash_made x p g h =
     let s = g.sound in
     let f = crash_accepted (seen x).net p h in
     let c = x.cards in
-    let before = up_before x p s f.0 in
+    let before : (q : ℕ) → crashed_in (with_crash c p) q ≡ false → (eqb q p ≡ false) × (crashed_in c q ≡ false) = λ q u. up_before c p q s f.0 u in
     record {
       sound = crash_sound c p s f.0;
       proposals_shaped = g.proposals_shaped;

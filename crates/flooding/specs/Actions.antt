@@ -1,11 +1,10 @@
 -- One card acts in one instance: what holds together before does so afterwards, where the card stands as its history says and its mail is accounted for.
 use Rattle.std.specs.Prelude.{◌≡◌, ℕ, ◌^◌, ◌<◌, ◌≤◌, true, false, ◌⊎◌, List, is_some, Some, None, Option, ◌≢◌}
 use Rattle.std.proofs.Common.{sym, ap, subst, ◌∙◌, inl, inr, ⊎_elim, arith}
-use Rattle.std.specs.List.{AllByRecursion}
+use Rattle.std.specs.List.{AllByRecursion, list_any}
 use Rattle.std.proofs.lemmas.Bool.{cases_eq, cases_lt}
 use Rattle.cards.specs.Cards.{crashed_in}
 use Rattle.tables.specs.Tables.{Shaped, ballot_in}
-use Rattle.wire.specs.Wires.{any_of}
 use Rattle.wire.specs.declared.Item.{Item}
 use Rattle.histories.specs.Histories.{Past, History}
 use Rattle.flooding.specs.Seats.{seat_in}
@@ -40,14 +39,14 @@ pub record Action (x : FloodingState) (t d : List (List (Option ℕ))) (ss : Lis
   pub items : AllByRecursion (Underway x.cards) w
   pub wire_true : AllByRecursion (SaysIn x.cards.count l k) w
   pub wire_others : (j : ℕ) → (j ≢ k) → (o : TiedSeats x j) → AllByRecursion (SaysIn x.cards.count o.past j) w
-  pub wire_stays : (j s a b : ℕ) → any_of (brings j s a b) x.wire ≡ true → any_of (brings j s a b) w ≡ true
+  pub wire_stays : (j s a b : ℕ) → list_any (brings j s a b) x.wire ≡ true → list_any (brings j s a b) w ≡ true
   pub kept_true : AllByRecursion (SaysIn x.cards.count l k) ks
   pub kept_others : (j : ℕ) → (j ≢ k) → (o : TiedSeats x j) → AllByRecursion (SaysIn x.cards.count o.past j) ks
   -- all stays kept but what was kept for it and the round that it comes to
-  pub kept_stays : (j s a b : ℕ) → ((j ≡ k) × (s ≡ r) × (b ≡ q) → ⊥) → any_of (brings j s a b) x.kept ≡ true → any_of (brings j s a b) ks ≡ true
+  pub kept_stays : (j s a b : ℕ) → ((j ≡ k) × (s ≡ r) × (b ≡ q) → ⊥) → list_any (brings j s a b) x.kept ≡ true → list_any (brings j s a b) ks ≡ true
   -- on entering a round it sends to all, and takes in what was kept
-  pub sent : g.past.round q < r → r ≤ x.cards.count → (b : ℕ) → b < x.cards.count → (b ≢ q) → crashed_in x.cards b ≡ false → any_of (brings k r q b) w ≡ true
-  pub taken : g.past.round q < r → r ≤ x.cards.count → (a : ℕ) → a < x.cards.count → crashed_in x.cards a ≡ false → any_of (brings k r a q) x.kept ≡ true → l.counted q r a ≡ true
+  pub sent : g.past.round q < r → r ≤ x.cards.count → (b : ℕ) → b < x.cards.count → (b ≢ q) → crashed_in x.cards b ≡ false → list_any (brings k r q b) w ≡ true
+  pub taken : g.past.round q < r → r ≤ x.cards.count → (a : ℕ) → a < x.cards.count → crashed_in x.cards a ≡ false → list_any (brings k r a q) x.kept ≡ true → l.counted q r a ≡ true
 
 module _ (x : FloodingState) (t d : List (List (Option ℕ))) (ss : List (List Seat)) (w ks : List (Item Load)) (k q r : ℕ) (g : TiedSeats x k) (l : Past) (a : Action x t d ss w ks k q r g l) where
   proposal_grows : (j s : ℕ) (o : Option ℕ) → proposal_of x.proposals j o ≡ Some s → proposal_of t j o ≡ Some s
@@ -84,7 +83,7 @@ module _ (x : FloodingState) (t d : List (List (Option ℕ))) (ss : List (List S
 
   due_after : (p b s : ℕ) → p < x.cards.count → b < x.cards.count → (b ≢ p) → crashed_in x.cards p ≡ false → crashed_in x.cards b ≡ false
       → 1 ≤ s → s ≤ x.cards.count → s ≤ l.round p → l.round b ≤ s
-      → (any_of (brings k s p b) w ≡ true) ⊎ (((l.round b < s) × (any_of (brings k s p b) ks ≡ true)) ⊎ (l.counted b s p ≡ true))
+      → (list_any (brings k s p b) w ≡ true) ⊎ (((l.round b < s) × (list_any (brings k s p b) ks ≡ true)) ⊎ (l.counted b s p ≡ true))
   due_after p b s bp bb e up ub begun last hp hb =
       let h = g.past in
       let m = a.moved in
@@ -95,7 +94,7 @@ module _ (x : FloodingState) (t d : List (List (Option ℕ))) (ss : List (List S
       let hq : h.round q < s = subst (λ i. h.round i < s) z new in
       let lq : s ≤ l.round q = subst (λ i. s ≤ l.round i) z hp in
       let y : s ≡ r = omega (arith, m.now, m.high) in
-      inl (subst (λ i. any_of (brings k s i b) w ≡ true) (sym z) (subst (λ i. any_of (brings k i q b) w ≡ true) (sym y) (a.sent (omega arith) (omega arith) b bb (λ i. e (i ∙ sym z)) ub))))
+      inl (subst (λ i. list_any (brings k s i b) w ≡ true) (sym z) (subst (λ i. list_any (brings k i q b) w ≡ true) (sym y) (a.sent (omega arith) (omega arith) b bb (λ i. e (i ∙ sym z)) ub))))
       (λ old.
       ⊎_elim
       (λ v. inl (a.wire_stays k s p b v))
@@ -109,7 +108,7 @@ module _ (x : FloodingState) (t d : List (List (Option ℕ))) (ss : List (List S
       let lq : l.round q ≡ s = ap l.round (sym z) ∙ omega arith in
       let hq : h.round q < s = subst (λ i. h.round i < s) z before in
       let y : s ≡ r = omega (arith, m.now) in
-      let kept : any_of (brings k r p q) x.kept ≡ true = subst (λ i. any_of (brings k i p q) x.kept ≡ true) y (subst (λ i. any_of (brings k s p i) x.kept ≡ true) z v.1) in
+      let kept : list_any (brings k r p q) x.kept ≡ true = subst (λ i. list_any (brings k i p q) x.kept ≡ true) y (subst (λ i. list_any (brings k s p i) x.kept ≡ true) z v.1) in
       inr (inr (subst (λ i. l.counted i s p ≡ true) (sym z) (subst (λ i. l.counted q i p ≡ true) (sym y) (a.taken (omega arith) (omega arith) p bp up kept)))))
       (cases_lt (l.round b) s))
       (λ v. inr (inr (m.counted_grows b s p v))))

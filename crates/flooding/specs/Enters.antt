@@ -1,18 +1,20 @@
 -- A card hears an item of its round, enters a round, or decides: the state goes on holding together.
 use Rattle.std.specs.Prelude.{◌≡◌, ℕ, suc, ◌+◌, ◌^◌, ◌<◌, ◌≤◌, true, false, not, ◌&&◌, List, ◌++◌, is_some, Some, None, Option, ◌==◌, ◌≢◌, refl}
+use Rattle.std.specs.List.{list_any}
 use Rattle.std.proofs.Common.{sym, ap, subst, ◌∙◌, ⊎_elim, arith}
 use borrow.Author.Tests.{clash}
 use Rattle.std.specs.Int.Count.{count_trailing_zeros}
 use Rattle.std.proofs.ByRecursion.{All-append}
+use Rattle.std.proofs.lemmas.List.Folds.{list_any-append}
 use Rattle.std.proofs.lemmas.Bool.{cases_Bool, cases_eq, both_ways, cond-true, cond-false, and_parts, and_from, or_cases, or_left, or_right, eqb-true, eqb-false, eq-eqb, ne_eqb, lt-ltb, not-true, not_from_false}
 use Rattle.notes.specs.Sets.{has, low}
 use Rattle.notes.proofs.Bits.{has_none, has_added, zeros_lowest}
 use Rattle.parts.proofs.Options.{some_held}
 use Rattle.cards.specs.Cards.{crashed_in, suspects_in}
 use Rattle.tables.specs.Tables.{Shaped, ballot_in, with_ballot}
-use Rattle.wire.specs.Wires.{sent, any_of}
+use Rattle.wire.specs.Wires.{sent}
 use Rattle.wire.specs.declared.Item.{Item}
-use Rattle.wire.proofs.Items.{all_left, all_sent_are, any_append, any_left, any_sent}
+use Rattle.wire.proofs.Items.{all_left, all_sent_are, any_left, any_sent}
 use Rattle.histories.specs.Histories.{Past, Fates, History}
 use Rattle.histories.specs.Moves.{heard_of, passing}
 use Rattle.histories.proofs.Agrees.{own_known, validity}
@@ -161,12 +163,12 @@ module _ (x : FloodingState) (k q : ℕ) (g : SoundFlooding x) (hk : k < 32) (bq
               }));
           wire_others = λ j d o. All-append (SaysIn n o.past j) x.wire (sent c q load n) o.wire_true
               (all_sent_are (SaysIn n o.past j) c q load n (λ b l' e f. absurd (d (sym f))));
-          wire_stays = λ j i p b w. any_append (brings j i p b) x.wire (sent c q load n) ∙ or_left _ _ w;
+          wire_stays = λ j i p b w. list_any-append (brings j i p b) x.wire (sent c q load n) ∙ or_left _ _ w;
           kept_true = all_left (SaysIn n a.past k) (SaysIn n a.past k) (stays_kept k r q) x.kept (λ y u _. u) (trues_stay n h a.past q r k x.kept moved tie.kept_true);
           kept_others = λ j _ o. all_left (SaysIn n o.past j) (SaysIn n o.past j) (stays_kept k r q) x.kept (λ y u _. u) o.kept_true;
           kept_stays = λ j i p b d. any_left (brings j i p b) (stays_kept k r q) x.kept (λ y w. others_stay k r q j i p b y d w);
-          sent = λ _ _ b l' d ub. any_append (brings k r q b) x.wire (sent c q load n)
-              ∙ or_right (any_of (brings k r q b) x.wire) _ (any_sent (brings k r q b) c q load n b l' (and_from _ _ (not_from_false _ ub) (not_from_false _ (ne_eqb b q d)))
+          sent = λ _ _ b l' d ub. list_any-append (brings k r q b) x.wire (sent c q load n)
+              ∙ or_right (list_any (brings k r q b) x.wire) _ (any_sent (brings k r q b) c q load n b l' (and_from _ _ (not_from_false _ ub) (not_from_false _ (ne_eqb b q d)))
               (and_from _ _ (and_from _ _ (eq-eqb k k refl) (eq-eqb r r refl)) (and_from _ _ (eq-eqb q q refl) (eq-eqb b b refl))));
           taken = λ _ _ p bp ua w. ap (λ j. a.past.counted q j p) (sym a.here) ∙ sym (a.seated.counts p bp) ∙ taking_counts c q k r s₀ x.kept p refl (omega (arith, g.sound.few)) (trusts p ua) w;
         }) in

@@ -1,7 +1,7 @@
 -- Flooding: what its state holds, what is seen of it, and what each accepted call makes of it.
 use Rattle.std.specs.Prelude.{ℕ, zero, suc, ◌+◌, ◌-◌, ◌*◌, Bool, cond, not, ◌&&◌, ◌||◌, List, [], ◌∷◌, ◌++◌, length, is_some, Some, None, Option, ◌==◌, nat_lt}
 use Rattle.std.specs.List.{slice_get, remove}
-use Rattle.notes.specs.Sets.{added, low}
+use Rattle.notes.specs.Sets.{added, low, total}
 use Rattle.parts.specs.Views.{ConsensusView}
 use Rattle.parts.specs.Deciding.{consensus_view}
 use Rattle.cards.specs.Cards.{CardState, crashed_in, suspects_in, new_cards, with_crash, with_suspicion}
@@ -41,11 +41,6 @@ flooding_proposal x = ballot_in x.proposals
 
 abbrev pub flooding_decision : FloodingState → ℕ → ℕ → Option ℕ
 flooding_decision x = ballot_in x.decisions
-
--- The sum of f at the numbers below m.
-unfoldable pub total : (ℕ → ℕ) → ℕ → ℕ
-total f zero = 0
-total f (suc m) = total f m + f m
 
 -- A running card in round r of n may enter n - r rounds more, and sends at most n - 1 items in each.
 abbrev pub to_send : CardState → Seat → ℕ → ℕ

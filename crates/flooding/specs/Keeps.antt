@@ -4,21 +4,22 @@ use Rattle.std.proofs.Common.{sym, ap, subst, ◌∙◌, inl, inr, ⊎_elim, ari
 use borrow.Author.Tests.{clash}
 use Rattle.std.proofs.lemmas.Nat.{or_lt}
 use Rattle.std.proofs.Math.Pow.{pow-lt}
-use Rattle.std.specs.List.{slice_get, AllByRecursion}
+use Rattle.std.specs.List.{slice_get, AllByRecursion, list_any}
 use Rattle.std.proofs.ByRecursion.{All-push, All-weaker}
+use Rattle.std.proofs.lemmas.List.Folds.{list_any-append}
 use Rattle.std.proofs.lemmas.Bool.{and_parts, and_from, and_left, and_right, or_parts, or_cases, or_left, or_right, eqb-true, eqb-false, eq-eqb, ne_eqb, lt-ltb, ltb-true, ltb-false, not-true, not_from_false, cases_Bool, cases_eq, cond-true, cond-false, cond_both, both_ways}
 use Rattle.notes.specs.Sets.{has, added}
 use Rattle.notes.proofs.Bits.{has_none, has_added}
 use Rattle.parts.specs.Refusals.{propose_answer, carry_answer, lose_answer, crash_answer, suspect_answer}
 use Rattle.parts.proofs.Accepted.{propose_accepted, crash_accepted, suspect_accepted}
 use Rattle.parts.proofs.Options.{some_held}
-use Rattle.cards.specs.Cards.{CardState, crashed_in, suspects_in, new_cards, with_crash, with_suspicion, SoundCards}
+use Rattle.cards.specs.Cards.{CardState, crashed_in, suspects_in, new_cards, with_crash, with_suspicion, Running, SoundCards}
 use Rattle.tables.specs.Tables.{new_ballots, ballot_in, with_ballot}
-use Rattle.wire.specs.Wires.{any_of, elsewhere, without_to}
+use Rattle.wire.specs.Wires.{elsewhere, without_to}
 use Rattle.wire.specs.declared.Item.{Item}
-use Rattle.wire.proofs.Items.{all_nth, all_left, any_left, any_append}
-use Rattle.cards.proofs.Lists.{same_rows}
-use Rattle.cards.proofs.Nets.{new_sound, crash_sound, crash_more, suspect_sound, suspect_more}
+use Rattle.wire.proofs.Items.{all_nth, all_left, any_left}
+use Rattle.parts.proofs.Lists.{same_rows}
+use Rattle.cards.proofs.Nets.{new_sound, crash_sound, crash_more, suspect_sound, suspect_more, up_before}
 use Rattle.wire.proofs.Taken.{carried_item, lost_item}
 use Rattle.histories.specs.Moves.{Later, beginning, proposing}
 use Rattle.histories.proofs.Kept.{moves_make_histories}
@@ -36,7 +37,7 @@ use Rattle.flooding.specs.Pasts.{proposing_further, none_beyond}
 use Rattle.flooding.specs.Sits.{hearing_counts}
 use Rattle.flooding.specs.Actions.{Elsewhere, here_or_elsewhere}
 use Rattle.flooding.specs.Enters.{in_round, hear_whole, enters_whole}
-use Rattle.flooding.specs.Steps.{Running, seat_stays, enter_stays, settles, goes_through}
+use Rattle.flooding.specs.Steps.{seat_stays, enter_stays, settles, goes_through}
 use Rattle.flooding.specs.Leaves.{brings_parts, Accounted, leave_whole}
 
 -- A new one.
@@ -92,7 +93,7 @@ new_made n =
 
 -- A proposal and an item that is heard: the card moves as often as it can, and no other can.
 
-settle_made : (x : FloodingState) (k q : ℕ) → SoundFlooding x → k < 32 → Running x q → ((j p : ℕ) → j < 32 → crashed_in x.cards p ≡ false → Elsewhere k q j p → may_move x j p ≡ false) → SettledFlooding (settle_on x k q)
+settle_made : (x : FloodingState) (k q : ℕ) → SoundFlooding x → k < 32 → Running x.cards q → ((j p : ℕ) → j < 32 → crashed_in x.cards p ≡ false → Elsewhere k q j p → may_move x j p ≡ false) → SettledFlooding (settle_on x k q)
 settle_made x k q g hk u others =
     let s = settles x k q g hk u in
     record {
@@ -165,11 +166,11 @@ module _ (x : FloodingState) (i : ℕ) (y : Item Load) (m : SettledFlooding x) (
       record {
         whole = leave_whole x i y (x.kept ++ y ∷ []) g at
             (λ j t. All-push (SaysIn x.cards.count t.past j) x.kept y t.kept_true (says j t))
-            (λ j r p b w. any_append (brings j r p b) x.kept (y ∷ []) ∙ or_left _ _ w)
+            (λ j r p b w. list_any-append (brings j r p b) x.kept (y ∷ []) ∙ or_left _ _ w)
             (λ t up uq h. inl (
               omega (arith, stage t u),
-              any_append (brings k y.load.round y.from q) x.kept (y ∷ [])
-                  ∙ or_right (any_of (brings k y.load.round y.from q) x.kept) _ (or_left _ false (and_from _ _ (and_from _ _ (eq-eqb k k refl) (eq-eqb y.load.round y.load.round refl)) (and_from _ _ (eq-eqb y.from y.from refl) (eq-eqb q q refl)))),
+              list_any-append (brings k y.load.round y.from q) x.kept (y ∷ [])
+                  ∙ or_right (list_any (brings k y.load.round y.from q) x.kept) _ (or_left _ false (and_from _ _ (and_from _ _ (eq-eqb k k refl) (eq-eqb y.load.round y.load.round refl)) (and_from _ _ (eq-eqb y.from y.from refl) (eq-eqb q q refl)))),
             ));
         settled = m.settled;
       }
@@ -242,13 +243,10 @@ module _ (x : FloodingState) (p : ℕ) (g : SoundCards x.cards) (card : p < x.ca
   abbrev e : CardState
   e = with_crash x.cards p
 
-  pub up_before : (q : ℕ) → crashed_in e q ≡ false → ((q == p) ≡ false) × (crashed_in c q ≡ false)
-  up_before q u = or_parts _ _ (sym (crash_more c p q g card) ∙ u)
-
   pub crash_later : Later (fates_of c) (fates_of e)
   crash_later =
       record {
-        crashed_stay = λ q o. not_from_false _ (up_before q (not-true _ o)).1;
+        crashed_stay = λ q o. not_from_false _ (up_before c p q g card (not-true _ o)).1;
         suspicions_stay = λ q y o. o;
         new_crashed = λ q y o. inl o;
       }
@@ -259,10 +257,10 @@ module _ (x : FloodingState) (p : ℕ) (g : SoundCards x.cards) (card : p < x.ca
       (λ y u o. record { instance_fits = u.instance_fits; sender = u.sender; receiver = u.receiver; up = crash_more c p y.to g card ∙ ap (λ b. b || crashed_in c y.to) (not-true _ o) ∙ u.up })
 
   -- What is under way to a card that runs afterwards stays.
-  pub crash_leaves : (k r a q : ℕ) → crashed_in e q ≡ false → any_of (brings k r a q) x.wire ≡ true → any_of (brings k r a q) (without_to p x.wire) ≡ true
+  pub crash_leaves : (k r a q : ℕ) → crashed_in e q ≡ false → list_any (brings k r a q) x.wire ≡ true → list_any (brings k r a q) (without_to p x.wire) ≡ true
   crash_leaves k r a q u =
       any_left (brings k r a q) (elsewhere p) x.wire
-      (λ y b. not_from_false _ (ne_eqb y.to p (λ z. eqb-false q p (up_before q u).0 (sym (brings_parts k r a q y b).1 ∙ z))))
+      (λ y b. not_from_false _ (ne_eqb y.to p (λ z. eqb-false q p (up_before c p q g card u).0 (sym (brings_parts k r a q y b).1 ∙ z))))
 
 pub crash_made : (x : FloodingState) (p : ℕ) → SettledFlooding x → crash_answer (seen x).net p ≡ Ok tt → SettledFlooding (crash_on x p)
 crash_made x p m h =
@@ -270,7 +268,7 @@ crash_made x p m h =
     let s = g.sound in
     let f = crash_accepted (seen x).net p h in
     let c = x.cards in
-    let before = up_before x p s f.0 in
+    let before : (q : ℕ) → crashed_in (with_crash c p) q ≡ false → ((q == p) ≡ false) × (crashed_in c q ≡ false) = λ q u. up_before c p q s f.0 u in
     record {
       whole = record {
         sound = crash_sound c p s f.0;

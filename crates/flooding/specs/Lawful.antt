@@ -1,10 +1,11 @@
 -- What is certain of every flooding that is made: decisions were proposed, are equal, and come when it is quiet.
-use Rattle.std.specs.List.{AllByRecursion}
+use Rattle.std.specs.List.{AllByRecursion, list_any}
 use Rattle.std.specs.Prelude.{◌≡◌, ℕ, zero, suc, ◌^◌, ◌<◌, ◌≤◌, true, false, ◌⊎◌, List, is_some, Some, None, Option, ◌≢◌}
 use Rattle.std.proofs.Common.{sym, ap, subst, ◌∙◌, inl, ⊎_elim, arith}
 use borrow.Author.Tests.{clash}
 use Rattle.std.proofs.ByRecursion.{All-map, All-weaker}
 use Rattle.std.proofs.lemmas.Bool.{cases_Bool, cases_lt, cases_eq, cond-true, cond-false, and_from, or_left, or_right, not_from_false, lt-ltb, ltb-true, both_ways}
+use Rattle.std.proofs.lemmas.Option.{same_Some}
 use Rattle.notes.specs.Sets.{has, low}
 use Rattle.notes.proofs.Bits.{same_sets}
 use Rattle.parts.specs.Views.{Runs, Quiet}
@@ -12,11 +13,10 @@ use Rattle.parts.specs.Deciding.{Lawful}
 use Rattle.parts.proofs.Options.{some_held}
 use Rattle.cards.specs.Cards.{crashed_in, SoundCards}
 use Rattle.tables.specs.Tables.{Shaped, ballot_in}
-use Rattle.wire.specs.Wires.{senders, any_of}
-use Rattle.tables.proofs.Changes.{nothing_left}
+use Rattle.wire.specs.Wires.{senders}
 use Rattle.tables.proofs.Written.{instance_below}
 use Rattle.cards.proofs.Nets.{lawful_net}
-use Rattle.wire.proofs.Wires.{length_senders}
+use Rattle.wire.proofs.Wires.{nothing_left, length_senders}
 use Rattle.histories.specs.Histories.{Past, History, Left}
 use Rattle.histories.specs.Moves.{heard_of}
 use Rattle.histories.proofs.Agrees.{agreement}
@@ -32,9 +32,6 @@ pub some_proposal : (t : List (List (Option ℕ))) (k s : ℕ) (o : Option ℕ) 
 some_proposal t k s None e = absurd (clash (ap is_some e))
 some_proposal t k s (Some q) e = (q, e)
 
-pub same_some : (s t : ℕ) → ◌≡◌ {A = Option ℕ} (Some s) (Some t) → s ≡ t
-same_some s t e = cc
-
 -- What of an instance's state the laws rest on: each card stands where a history says, what was sent has not gone astray, and no running card can move.
 pub record Standing (x : FloodingState) (k : ℕ) : Type 0 where
   pub past : Past
@@ -43,7 +40,7 @@ pub record Standing (x : FloodingState) (k : ℕ) : Type 0 where
   pub deciders : (p : ℕ) → is_some (ballot_in x.decisions k p) ≡ true → p < x.cards.count
   pub due : (p q r : ℕ) → p < x.cards.count → q < x.cards.count → (q ≢ p) → crashed_in x.cards p ≡ false → crashed_in x.cards q ≡ false
       → 1 ≤ r → r ≤ x.cards.count → r ≤ past.round p → past.round q ≤ r
-      → (any_of (brings k r p q) x.wire ≡ true) ⊎ (((past.round q < r) × (any_of (brings k r p q) x.kept ≡ true)) ⊎ (past.counted q r p ≡ true))
+      → (list_any (brings k r p q) x.wire ≡ true) ⊎ (((past.round q < r) × (list_any (brings k r p q) x.kept ≡ true)) ⊎ (past.counted q r p ≡ true))
   pub settled : (p : ℕ) → p < x.cards.count → crashed_in x.cards p ≡ false → may_move x k p ≡ false
 
 module _ (x : FloodingState) (k : ℕ) (g : Standing x k) where
@@ -71,7 +68,7 @@ module _ (x : FloodingState) (k : ℕ) (g : Standing x k) where
       let bq = card q t f in
       let same : (seat_in x.seats k p).known ≡ (seat_in x.seats k q).known =
       same_sets _ _ (λ z. known_at_end p s z e ∙ agreement n (fates_of x.cards) g.past g.history p q bp bq (decided_stage p s e) (decided_stage q t f) z ∙ sym (known_at_end q t z f)) in
-      same_some s t (sym ((g.stands p bp).decided s e).1 ∙ ap (λ m. proposal_of x.proposals k (low m)) same ∙ ((g.stands q bq).decided t f).1)
+      same_Some s t (sym ((g.stands p bp).decided s e).1 ∙ ap (λ m. proposal_of x.proposals k (low m)) same ∙ ((g.stands q bq).decided t f).1)
 
   decided_proposed : (p : ℕ) → is_some (ballot_in x.decisions k p) ≡ true → is_some (ballot_in x.proposals k p) ≡ true
   decided_proposed p h =
@@ -82,8 +79,8 @@ module _ (x : FloodingState) (k : ℕ) (g : Standing x k) where
 
   -- The rest law: a running card in the lowest round of all would have counted everybody.
   module _ (quiet : Quiet (seen x).net) (all : (p : ℕ) → Runs (seen x).net p → is_some (ballot_in x.proposals k p) ≡ true) where
-    nothing_comes : (r p q : ℕ) → any_of (brings k r p q) x.wire ≢ true
-    nothing_comes r p q h = clash (ap (any_of (brings k r p q)) (sym (nothing_left x.wire quiet.empty)) ∙ h)
+    nothing_comes : (r p q : ℕ) → list_any (brings k r p q) x.wire ≢ true
+    nothing_comes r p q h = clash (ap (list_any (brings k r p q)) (sym (nothing_left x.wire quiet.empty)) ∙ h)
 
     stuck : (p : ℕ) → p < x.cards.count → crashed_in x.cards p ≡ false → g.past.round p ≤ x.cards.count
         → ((q : ℕ) → q < x.cards.count → crashed_in x.cards q ≡ false → g.past.round p ≤ g.past.round q) → ⊥

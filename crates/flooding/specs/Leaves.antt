@@ -1,10 +1,9 @@
 -- An item leaves the wire: it is accounted for where it was kept or counted, or nobody waits for it.
 use Rattle.std.specs.Prelude.{◌≡◌, ℕ, ◌<◌, ◌≤◌, true, false, ◌&&◌, ◌⊎◌, List, Some, ◌==◌}
 use Rattle.std.proofs.Common.{sym, subst, ◌∙◌, inl, inr, ⊎_elim}
-use Rattle.std.specs.List.{slice_get, remove, AllByRecursion}
+use Rattle.std.specs.List.{slice_get, remove, AllByRecursion, list_any}
 use Rattle.std.proofs.lemmas.Bool.{and_parts, or_cases, eqb-true}
 use Rattle.cards.specs.Cards.{crashed_in}
-use Rattle.wire.specs.Wires.{any_of}
 use Rattle.wire.specs.declared.Item.{Item}
 use Rattle.wire.proofs.Items.{all_removed, any_split}
 use Rattle.flooding.specs.declared.mail.Load.{Load}
@@ -24,11 +23,11 @@ brings_parts k r p q y b =
 abbrev pub Accounted : FloodingState → List (Item Load) → ℕ → ℕ → ℕ → ℕ → Type 0
 Accounted x kept k r p q =
     (g : TiedSeats x k) → crashed_in x.cards p ≡ false → crashed_in x.cards q ≡ false → g.past.round q ≤ r
-    → ((g.past.round q < r) × (any_of (brings k r p q) kept ≡ true)) ⊎ (g.past.counted q r p ≡ true)
+    → ((g.past.round q < r) × (list_any (brings k r p q) kept ≡ true)) ⊎ (g.past.counted q r p ≡ true)
 
 pub leave_whole : (x : FloodingState) (i : ℕ) (y : Item Load) (kept : List (Item Load)) → SoundFlooding x → slice_get x.wire i ≡ Some y
     → ((k : ℕ) (g : TiedSeats x k) → AllByRecursion (SaysIn x.cards.count g.past k) kept)
-    → ((k r p q : ℕ) → any_of (brings k r p q) x.kept ≡ true → any_of (brings k r p q) kept ≡ true)
+    → ((k r p q : ℕ) → list_any (brings k r p q) x.kept ≡ true → list_any (brings k r p q) kept ≡ true)
     → Accounted x kept y.load.instance y.load.round y.from y.to
     → SoundFlooding (record { cards = x.cards; proposals = x.proposals; decisions = x.decisions; seats = x.seats; wire = remove x.wire i; kept = kept })
 leave_whole x i y kept g e kept_true kept-stays accounted =

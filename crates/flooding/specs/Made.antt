@@ -1,14 +1,14 @@
 -- What holds of every flooding that is made by `new` and the calls: in each instance its state is that of a history.
-use Rattle.std.specs.Prelude.{◌≡◌, ℕ, suc, ◌^◌, ◌<◌, ◌≤◌, Bool, true, false, cond, not, ◌&&◌, ◌⊎◌, is_some, Some, ◌==◌, ◌≢◌, nat_lt}
-use Rattle.std.specs.List.{AllByRecursion}
+use Rattle.std.specs.Prelude.{◌≡◌, ℕ, suc, ◌^◌, ◌<◌, ◌≤◌, Bool, true, false, cond, not, ◌&&◌, ◌⊎◌, is_some, Some, Option, ◌==◌, ◌≢◌, nat_lt}
+use Rattle.std.specs.List.{AllByRecursion, list_any}
 use Rattle.notes.specs.Sets.{has, low}
 use Rattle.cards.specs.Cards.{CardState, crashed_in, suspects_in, SoundCards}
 use Rattle.tables.specs.Tables.{Shaped, ballot_in}
-use Rattle.wire.specs.Wires.{any_of}
 use Rattle.wire.specs.declared.Item.{Item}
 use Rattle.histories.specs.Histories.{Past, Fates, History}
 use Rattle.histories.specs.Moves.{heard_of}
 use Rattle.flooding.specs.Seats.{seat_in}
+use Rattle.flooding.specs.declared.seats.Seat.{Seat}
 use Rattle.flooding.specs.declared.mail.Load.{Load}
 use Rattle.flooding.specs.Flooding.{FloodingState, proposal_of, may_move}
 
@@ -16,8 +16,11 @@ abbrev pub fates_of : CardState → Fates
 fates_of c = record { runs = λ p. not (crashed_in c p); suspects = suspects_in c }
 
 -- The round of a card as its history counts it: one beyond the last once it has decided.
+abbrev pub stage_from : ℕ → Option ℕ → Seat → ℕ
+stage_from n d s = cond (is_some d) (suc n) s.round
+
 abbrev pub stage_of : FloodingState → ℕ → ℕ → ℕ
-stage_of x k p = cond (is_some (ballot_in x.decisions k p)) (suc x.cards.count) (seat_in x.seats k p).round
+stage_of x k p = stage_from x.cards.count (ballot_in x.decisions k p) (seat_in x.seats k p)
 
 -- An item of instance k says what its sender knew on entering its round.
 pub record True (n : ℕ) (h : Past) (k : ℕ) (y : Item Load) : Type 0 where
@@ -51,7 +54,7 @@ pub record Tied (x : FloodingState) (k : ℕ) : Type 0 where
   -- what a running card has sent in a round that the running receiver has not left is under way, kept for that round, or counted
   pub due : (p q r : ℕ) → p < x.cards.count → q < x.cards.count → (q ≢ p) → crashed_in x.cards p ≡ false → crashed_in x.cards q ≡ false
       → 1 ≤ r → r ≤ x.cards.count → r ≤ past.round p → past.round q ≤ r
-      → (any_of (brings k r p q) x.wire ≡ true) ⊎ (((past.round q < r) × (any_of (brings k r p q) x.kept ≡ true)) ⊎ (past.counted q r p ≡ true))
+      → (list_any (brings k r p q) x.wire ≡ true) ⊎ (((past.round q < r) × (list_any (brings k r p q) x.kept ≡ true)) ⊎ (past.counted q r p ≡ true))
   -- no running card can move
   pub settled : (p : ℕ) → p < x.cards.count → crashed_in x.cards p ≡ false → may_move x k p ≡ false
 

@@ -1,10 +1,11 @@
 -- What `new` and each call make of a flooding is what the interface says.
-use Rattle.std.specs.Prelude.{◌≡◌, ℕ, zero, suc, ◌+◌, ◌-◌, ◌*◌, ◌^◌, ◌<◌, ◌≤◌, false, cond, not, ◌&&◌, ◌==◌, ltb, length, Some, None, nat_lt, refl, Ok}
+use Rattle.std.specs.Prelude.{◌≡◌, ℕ, ◌+◌, ◌-◌, ◌*◌, ◌^◌, ◌<◌, ◌≤◌, false, cond, not, ◌&&◌, ◌==◌, ltb, length, Some, None, nat_lt, refl, Ok}
 use Rattle.std.proofs.Common.{sym, ap, subst, ◌∙◌, ⊎_elim, mul-le-mul, arith}
 use Rattle.std.specs.List.{slice_get}
 use Rattle.std.proofs.lemmas.List.Edits.{length-remove}
-use Rattle.std.proofs.lemmas.Bool.{cases_Bool, cond-false, and_left, and_right, or_parts, not_from_true, both_ways}
-use Rattle.notes.specs.Sets.{added}
+use Rattle.std.proofs.lemmas.Bool.{cases_Bool, cond-false, and_left, and_right, not_from_true, both_ways}
+use Rattle.notes.specs.Sets.{added, total}
+use Rattle.notes.proofs.Counting.{total_le, total_none}
 use Rattle.parts.specs.Nets.{SameCards, NetSuspected}
 use Rattle.parts.specs.Refusals.{propose_answer, carry_answer, lose_answer, crash_answer, suspect_answer}
 use Rattle.parts.specs.Deciding.{Started, DecidedMore, Proposed, Carried, Lost, Crashed, Suspected}
@@ -14,23 +15,18 @@ use Rattle.tables.specs.Tables.{ballot_in}
 use Rattle.wire.specs.Wires.{senders, elsewhere}
 use Rattle.wire.specs.declared.Item.{Item}
 use Rattle.wire.proofs.Items.{all_nth, part_left, length_left}
-use Rattle.cards.proofs.Lists.{same_all, same_rows}
-use Rattle.cards.proofs.Nets.{same_cards, net_crashed, net_suspected, crash_more}
+use Rattle.parts.proofs.Lists.{same_all, same_rows}
+use Rattle.cards.proofs.Nets.{same_cards, net_crashed, net_suspected, up_before}
 use Rattle.wire.proofs.Taken.{carried_item, lost_item, senders_removed}
 use Rattle.flooding.specs.Seats.{no_seat, new_seats, seat_in, entering}
 use Rattle.flooding.specs.declared.seats.Seat.{Seat}
 use Rattle.flooding.specs.declared.mail.Load.{Load}
-use Rattle.flooding.specs.Flooding.{FloodingState, total, to_send, flooding_work, seen, new_flooding, enter_on, put_forward, propose_on, arrive_on, lose_on, carry_on, crash_on, doubt_on, suspect_on}
+use Rattle.flooding.specs.Flooding.{FloodingState, to_send, flooding_work, seen, new_flooding, enter_on, put_forward, propose_on, arrive_on, lose_on, carry_on, crash_on, doubt_on, suspect_on}
 use Rattle.flooding.specs.Made.{Underway}
 use Rattle.flooding.specs.Sound.{SettledFlooding}
 use Rattle.tables.proofs.Written.{place_written, shaped_after}
-use Rattle.flooding.specs.Works.{total_below, enter_work}
+use Rattle.flooding.specs.Works.{enter_work}
 use Rattle.flooding.specs.Changes.{DecidedBy, Placed, steps_moved, through_moved, arrive_moved}
-
-total_none : (f : ℕ → ℕ) (m : ℕ) → ((k : ℕ) → f k ≡ 0) → total f m ≡ 0
-unfolding total
-total_none f zero h = refl
-total_none f (suc m) h = omega (arith, h m, total_none f m h)
 
 pub new_means : (n : ℕ) → Started n (seen (new_flooding n))
 new_means n =
@@ -127,7 +123,7 @@ less_to_send c p q s g h =
     ⊎_elim
     (λ e. let z : to_send (with_crash c p) s q ≡ 0 = cond-false _ _ _ (and_left _ (nat_lt 0 s.round) (not_from_true _ e)) in omega arith)
     (λ e.
-    let b : ((q == p) ≡ false) × (crashed_in c q ≡ false) = or_parts _ _ (sym (crash_more c p q g h) ∙ e) in
+    let b : ((q == p) ≡ false) × (crashed_in c q ≡ false) = up_before c p q g h e in
     let z : to_send (with_crash c p) s q ≡ to_send c s q = ap (λ d. cond (not d && nat_lt 0 s.round) ((c.count - 1) * (c.count - s.round)) 0) (e ∙ sym b.1) in
     omega arith)
     (cases_Bool (crashed_in (with_crash c p) q))
@@ -136,8 +132,8 @@ pub crash_is_crashed : (x : FloodingState) (p : ℕ) → SoundCards x.cards → 
 crash_is_crashed x p g h =
     let c = x.cards in
     let f = crash_accepted (seen x).net p h in
-    let less = total_below (λ k. total (λ q. to_send (with_crash c p) (seat_in x.seats k q) q) c.count) (λ k. total (λ q. to_send c (seat_in x.seats k q) q) c.count) 32
-    (λ k _. total_below (λ q. to_send (with_crash c p) (seat_in x.seats k q) q) (λ q. to_send c (seat_in x.seats k q) q) c.count (λ q _. less_to_send c p q (seat_in x.seats k q) g f.0)) in
+    let less = total_le (λ k. total (λ q. to_send (with_crash c p) (seat_in x.seats k q) q) c.count) (λ k. total (λ q. to_send c (seat_in x.seats k q) q) c.count) 32
+    (λ k _. total_le (λ q. to_send (with_crash c p) (seat_in x.seats k q) q) (λ q. to_send c (seat_in x.seats k q) q) c.count (λ q _. less_to_send c p q (seat_in x.seats k q) g f.0)) in
     record {
       net = net_crashed c p _ _ _ _ g f.0 (part_left (λ y. y.from) (elsewhere p) x.wire) (omega (arith, less, length_left (elsewhere p) x.wire));
       proposals_stay = λ k q. refl;

@@ -2,14 +2,13 @@
 use Rattle.std.specs.Prelude.{◌≡◌, ℕ, zero, suc, ◌^◌, ◌<◌, ◌≤◌, Bool, true, false, cond, not, ◌&&◌, ◌||◌, List, [], ◌∷◌, ◌==◌, bit_or, nat_eq, refl}
 use Rattle.std.proofs.Common.{sym, ap, subst, ◌∙◌, ⊎_elim, arith}
 use Rattle.std.proofs.lemmas.Nat.{or_lt}
-use Rattle.std.specs.List.{AllByRecursion}
+use Rattle.std.specs.List.{AllByRecursion, list_any}
 use Rattle.std.proofs.ByRecursion.{All-weaker}
 use Rattle.std.proofs.lemmas.Bool.{cases_Bool, both_ways, cond_both, cond-true, cond-false, and_parts, and_from, and_left, or_cases, or_left, or_right, eqb-true, eq-eqb, lt-ltb, not_from_false}
 use Rattle.notes.specs.Sets.{has, added}
 use Rattle.notes.proofs.Bits.{has_none, has_added, has_union}
-use Rattle.tables.proofs.Changes.{bool_same}
+use Rattle.std.specs.Cmp.Derive.{one_truth}
 use Rattle.cards.specs.Cards.{CardState, crashed_in, suspects_in}
-use Rattle.wire.specs.Wires.{any_of}
 use Rattle.wire.specs.declared.Item.{Item}
 use Rattle.histories.specs.Histories.{Past, Fates, History}
 use Rattle.histories.specs.Moves.{put, any, heard_of, counting}
@@ -75,7 +74,7 @@ counted_more h q y s w e =
 
 heard_more : (n y : ℕ) (a b : ℕ → Bool) → y < n → any n (λ w. (a w || w == y) && b w) ≡ (any n (λ w. a w && b w) || b y)
 heard_more n y a b l =
-    bool_same _ _
+    one_truth _ _
     (λ e.
     let t = (any_decides (λ w. (a w || w == y) && b w) n).0 e in
     let p = and_parts (a t.0 || t.0 == y) (b t.0) t.2 in
@@ -192,7 +191,7 @@ module _ (c : CardState) (q : ℕ) where
       ap (λ t. has t.counted from) (cond-false (suspects_in c q from) s (record { round = s.round; counted = added s.counted from; known = bit_or s.known known }) u)
       ∙ has_added s.counted from from ∙ or_right (has s.counted from) _ (and_from _ _ (lt-ltb from 32 l) (eq-eqb from from refl))
 
-  pub taking_counts : (k r : ℕ) (s : Seat) (xs : List (Item Load)) (p : ℕ) → s.round ≡ r → p < 32 → suspects_in c q p ≡ false → any_of (brings k r p q) xs ≡ true → has (taking_in c k q s xs).counted p ≡ true
+  pub taking_counts : (k r : ℕ) (s : Seat) (xs : List (Item Load)) (p : ℕ) → s.round ≡ r → p < 32 → suspects_in c q p ≡ false → list_any (brings k r p q) xs ≡ true → has (taking_in c k q s xs).counted p ≡ true
   taking_counts k r s [] p e l u b = absurd (both_ways false refl b)
   taking_counts k r s (y ∷ ys) p e l u b =
       ⊎_elim

@@ -1,10 +1,9 @@
 -- What holds of every flooding that is made by `new` and the calls, card by card: each seat, and each item, says what its history says.
-use Rattle.std.specs.Prelude.{◌≡◌, ℕ, suc, ◌^◌, ◌<◌, ◌≤◌, true, false, cond, ◌⊎◌, List, is_some, Some, Option, ◌≢◌, nat_lt}
-use Rattle.std.specs.List.{AllByRecursion}
+use Rattle.std.specs.Prelude.{◌≡◌, ℕ, ◌^◌, ◌<◌, ◌≤◌, true, false, ◌⊎◌, List, is_some, Some, Option, ◌≢◌, nat_lt}
+use Rattle.std.specs.List.{AllByRecursion, list_any}
 use Rattle.notes.specs.Sets.{has, low}
 use Rattle.cards.specs.Cards.{crashed_in, SoundCards}
 use Rattle.tables.specs.Tables.{Shaped, ballot_in}
-use Rattle.wire.specs.Wires.{any_of}
 use Rattle.wire.specs.declared.Item.{Item}
 use Rattle.histories.specs.Histories.{Past, History}
 use Rattle.histories.specs.Moves.{heard_of}
@@ -12,11 +11,7 @@ use Rattle.flooding.specs.Seats.{seat_in}
 use Rattle.flooding.specs.declared.seats.Seat.{Seat}
 use Rattle.flooding.specs.declared.mail.Load.{Load}
 use Rattle.flooding.specs.Flooding.{FloodingState, proposal_of, may_move}
-use Rattle.flooding.specs.Made.{fates_of, brings, Underway}
-
--- The round of a card as its history counts it: one beyond the last once it has decided.
-abbrev pub stage_from : ℕ → Option ℕ → Seat → ℕ
-stage_from n d s = cond (is_some d) (suc n) s.round
+use Rattle.flooding.specs.Made.{fates_of, stage_from, brings, Underway}
 
 -- The seat of card p holds what the history says of its round: whom it has counted, and what it has heard.
 pub record Seated (n : ℕ) (h : Past) (p : ℕ) (s : Seat) : Type 0 where
@@ -58,7 +53,7 @@ pub record TiedSeats (x : FloodingState) (k : ℕ) : Type 0 where
   -- what a running card has sent in a round that the running receiver has not left is under way, kept for that round, or counted
   pub due : (p q r : ℕ) → p < x.cards.count → q < x.cards.count → (q ≢ p) → crashed_in x.cards p ≡ false → crashed_in x.cards q ≡ false
       → 1 ≤ r → r ≤ x.cards.count → r ≤ past.round p → past.round q ≤ r
-      → (any_of (brings k r p q) x.wire ≡ true) ⊎ (((past.round q < r) × (any_of (brings k r p q) x.kept ≡ true)) ⊎ (past.counted q r p ≡ true))
+      → (list_any (brings k r p q) x.wire ≡ true) ⊎ (((past.round q < r) × (list_any (brings k r p q) x.kept ≡ true)) ⊎ (past.counted q r p ≡ true))
 
 -- What holds at any time, between two moves of a card too.
 pub record SoundFlooding (x : FloodingState) : Type 0 where

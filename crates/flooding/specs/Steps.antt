@@ -3,24 +3,19 @@ use Rattle.std.specs.Prelude.{◌≡◌, ℕ, zero, suc, ◌+◌, ◌<◌, ◌�
 use Rattle.std.proofs.Common.{sym, ap, subst, ◌∙◌, inl, inr, ⊎_elim, arith}
 use Rattle.std.proofs.lemmas.Bool.{cases_Bool, cases_eq, both_ways, cond_both, cond-true, cond-false, ltb-true, ltb-false}
 use Rattle.notes.specs.Sets.{low}
-use Rattle.cards.specs.Cards.{CardState, crashed_in}
+use Rattle.cards.specs.Cards.{CardState, Running}
 use Rattle.tables.specs.Tables.{Shaped, ballot_in, with_ballot}
 use Rattle.flooding.specs.Seats.{no_seat, seat_in, with_seat, entering, ready}
 use Rattle.flooding.specs.declared.seats.Seat.{Seat}
 use Rattle.flooding.specs.Mail.{taking_in}
 use Rattle.flooding.specs.Flooding.{FloodingState, seat_on, enter_on, decide_on, proposal_of, may_move, move_on, step_on, steps_on, settle_on, through_on}
-use Rattle.flooding.specs.Sound.{stage_from, SoundFlooding}
+use Rattle.flooding.specs.Made.{stage_of}
+use Rattle.flooding.specs.Sound.{SoundFlooding}
 use Rattle.flooding.specs.Mails.{taking_round}
 use Rattle.tables.proofs.Written.{shaped_after}
 use Rattle.flooding.specs.Works.{cell_same, cell_other, may_move_means, step_cards}
 use Rattle.flooding.specs.Actions.{Elsewhere}
 use Rattle.flooding.specs.Enters.{next_whole, choice, decide_whole}
-
-abbrev pub Running : FloodingState → ℕ → Type 0
-Running x q = (q < x.cards.count) × (crashed_in x.cards q ≡ false)
-
-abbrev stage_in : FloodingState → ℕ → ℕ → ℕ
-stage_in x k q = stage_from x.cards.count (ballot_in x.decisions k q) (seat_in x.seats k q)
 
 -- Whether a card may move depends on its seat and its decision.
 pub seat_stays : (x : FloodingState) (k q j p : ℕ) (s : Seat) → SoundFlooding x → k < 32 → q < x.cards.count → Elsewhere k q j p → may_move (seat_on x k q s) j p ≡ may_move x j p
@@ -49,20 +44,20 @@ module _ (x : FloodingState) (k q : ℕ) (g : Shaped x.seats) (hk : k < 32) (six
       (cell_other first k q j p last no_seat entered_shaped hk six e ∙ cell_other x.seats k q j p (entering q r known) no_seat g hk six e)
 
 -- One move takes the card one stage further.
-module _ (x : FloodingState) (k q : ℕ) (g : SoundFlooding x) (hk : k < 32) (u : Running x q) where
+module _ (x : FloodingState) (k q : ℕ) (g : SoundFlooding x) (hk : k < 32) (u : Running x.cards q) where
   abbrev round : ℕ
   round = (seat_in x.seats k q).round
 
   six : q < 6
   six = omega (arith, u.0, g.sound.few)
 
-  moves : may_move x k q ≡ true → SoundFlooding (move_on x k q) × (stage_in (move_on x k q) k q ≡ suc (stage_in x k q))
+  moves : may_move x k q ≡ true → SoundFlooding (move_on x k q) × (stage_of (move_on x k q) k q ≡ suc (stage_of x k q))
   moves m =
       let n : ℕ = x.cards.count in
       let o = may_move_means x k q m in
-      let stage : stage_in x k q ≡ round = cond-false _ _ _ o.1 in
+      let stage : stage_of x k q ≡ round = cond-false _ _ _ o.1 in
       let known : ℕ = (seat_in x.seats k q).known in
-      cond_both (nat_lt round n) (enter_on x k q (round + 1) known) (decide_on x k q) (λ y. SoundFlooding y × (stage_in y k q ≡ suc (stage_in x k q)))
+      cond_both (nat_lt round n) (enter_on x k q (round + 1) known) (decide_on x k q) (λ y. SoundFlooding y × (stage_of y k q ≡ suc (stage_of x k q)))
       (λ l. (
         next_whole x k q g hk u.0 u.1 m (ltb-true _ _ l),
         cond-false _ (suc n) (seat_in (enter_on x k q (round + 1) known).seats k q).round o.1 ∙ enter_round x k q g.seats_shaped hk six (round + 1) known ∙ omega arith,
@@ -90,11 +85,11 @@ pub record Stepped (x y : FloodingState) (k q : ℕ) (Far : Type 0) : Type 0 whe
   pub stays : (j p : ℕ) → Elsewhere k q j p → may_move y j p ≡ may_move x j p
   pub far : Far
 
-running_on : (x y : FloodingState) (q : ℕ) → y.cards ≡ x.cards → Running x q → Running y q
-running_on x y q e u = subst (λ (c : CardState). (q < c.count) × (crashed_in c q ≡ false)) (sym e) u
+running_on : (x y : FloodingState) (q : ℕ) → y.cards ≡ x.cards → Running x.cards q → Running y.cards q
+running_on x y q e u = subst (λ c. Running c q) (sym e) u
 
 -- After m moves the card cannot move any more, or has come to a stage beyond m.
-stepped : (x : FloodingState) (k q m : ℕ) → SoundFlooding x → k < 32 → Running x q → Stepped x (steps_on x k q m) k q ((may_move (steps_on x k q m) k q ≡ false) ⊎ (m < stage_in (steps_on x k q m) k q))
+stepped : (x : FloodingState) (k q m : ℕ) → SoundFlooding x → k < 32 → Running x.cards q → Stepped x (steps_on x k q m) k q ((may_move (steps_on x k q m) k q ≡ false) ⊎ (m < stage_of (steps_on x k q m) k q))
 unfolding steps_on
 stepped x k q zero g hk u =
     record {
@@ -113,14 +108,14 @@ stepped x k q (suc m) g hk u =
       stays = λ j p e. step_stays y k q b.whole hk v j p e ∙ b.stays j p e;
       far =
           ⊎_elim
-          (λ t. inr (let e : stage_in (step_on y k q) k q ≡ suc (stage_in y k q) = ap (λ z. stage_in z k q) (cond-true (may_move y k q) (move_on y k q) y t) ∙ (moves y k q b.whole hk v t).1 in
+          (λ t. inr (let e : stage_of (step_on y k q) k q ≡ suc (stage_of y k q) = ap (λ z. stage_of z k q) (cond-true (may_move y k q) (move_on y k q) y t) ∙ (moves y k q b.whole hk v t).1 in
           ⊎_elim (λ f. absurd (both_ways (may_move y k q) f t)) (λ f. omega arith) b.far))
           (λ f. inl (ap (λ z. may_move z k q) (cond-false (may_move y k q) (move_on y k q) y f) ∙ f))
           (cases_Bool (may_move y k q));
     }
 
 -- There are n rounds and the decision, and the card begins at stage 1 or beyond.
-pub settles : (x : FloodingState) (k q : ℕ) → SoundFlooding x → k < 32 → Running x q → Stepped x (settle_on x k q) k q (may_move (settle_on x k q) k q ≡ false)
+pub settles : (x : FloodingState) (k q : ℕ) → SoundFlooding x → k < 32 → Running x.cards q → Stepped x (settle_on x k q) k q (may_move (settle_on x k q) k q ≡ false)
 settles x k q g hk u =
     let y = settle_on x k q in
     let b = stepped x k q x.cards.count g hk u in
@@ -131,7 +126,7 @@ settles x k q g hk u =
       far =
           ⊎_elim
           (λ t.
-          let e : stage_in y k q ≡ (seat_in y.seats k q).round = cond-false _ _ _ (may_move_means y k q t).1 in
+          let e : stage_of y k q ≡ (seat_in y.seats k q).round = cond-false _ _ _ (may_move_means y k q t).1 in
           let n : y.cards.count ≡ x.cards.count = ap (λ (c : CardState). c.count) b.same_cards in
           let l = ((b.whole.tied k hk).stands q (running_on x y q b.same_cards u).0).seated.in_rounds in
           ⊎_elim (λ f. f) (λ f. absurd (omega arith)) b.far)
@@ -146,7 +141,7 @@ pub record Through (x y : FloodingState) (q m : ℕ) : Type 0 where
   pub stays : (j p : ℕ) → (p ≢ q) → may_move y j p ≡ may_move x j p
   pub ends : (j : ℕ) → j < m → may_move y j q ≡ false
 
-pub goes_through : (x : FloodingState) (q m : ℕ) → SoundFlooding x → Running x q → m ≤ 32 → Through x (through_on x q m) q m
+pub goes_through : (x : FloodingState) (q m : ℕ) → SoundFlooding x → Running x.cards q → m ≤ 32 → Through x (through_on x q m) q m
 unfolding through_on
 goes_through x q zero g u l = record { whole = g; same_cards = refl; stays = λ j p e. refl; ends = λ j b. absurd (omega arith) }
 goes_through x q (suc m) g u l =

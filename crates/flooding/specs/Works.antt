@@ -1,8 +1,10 @@
 -- A move does not raise the work: what entering a round sends, it had still to send.
-use Rattle.std.specs.Prelude.{◌≡◌, ℕ, zero, suc, ◌+◌, ◌-◌, ◌*◌, ◌<◌, ◌≤◌, true, false, cond, not, ◌&&◌, List, [], is_some, ◌==◌, ◌≢◌, nat_lt, slice_index_or, slice_set, refl}
-use Rattle.std.proofs.Common.{sym, ap, subst, ◌∙◌, ⊎_elim, arith}
+use Rattle.std.specs.Prelude.{◌≡◌, ℕ, suc, ◌+◌, ◌-◌, ◌*◌, ◌<◌, ◌≤◌, true, false, cond, not, ◌&&◌, List, [], is_some, ◌==◌, nat_lt, slice_index_or, slice_set, refl}
+use Rattle.std.proofs.Common.{ap, ◌∙◌, ⊎_elim, arith}
 use Rattle.std.proofs.lemmas.List.{length-append}
-use Rattle.std.proofs.lemmas.Bool.{cases_Bool, cases_eq, cond-true, cond-false, cond_both, and_parts, and_from, eqb-true, eq-eqb, ltb-true, lt-ltb, not_from_false, not-true}
+use Rattle.std.proofs.lemmas.Bool.{cases_Bool, cond-true, cond-false, cond_both, and_parts, and_from, eqb-true, eq-eqb, ltb-true, lt-ltb, not_from_false, not-true}
+use Rattle.notes.specs.Sets.{total}
+use Rattle.notes.proofs.Counting.{total_le, total_trade}
 use Rattle.tables.specs.Tables.{Shaped, ballot_in}
 use Rattle.cards.specs.Cards.{CardState, crashed_in}
 use Rattle.wire.specs.Wires.{sent}
@@ -12,7 +14,7 @@ use Rattle.flooding.specs.Seats.{no_seat, seat_in, with_seat, entering, all_coun
 use Rattle.flooding.specs.declared.seats.Seat.{Seat}
 use Rattle.flooding.specs.Mail.{taking_in}
 use Rattle.flooding.specs.declared.mail.Load.{Load}
-use Rattle.flooding.specs.Flooding.{FloodingState, total, to_send, flooding_work, enter_on, decide_on, may_move, move_on, step_on}
+use Rattle.flooding.specs.Flooding.{FloodingState, to_send, flooding_work, enter_on, decide_on, may_move, move_on, step_on}
 use Rattle.flooding.specs.Mails.{taking_round}
 
 -- A table, after one cell is written.
@@ -25,23 +27,6 @@ pub cell_other : {X : Type 0} (t : List (List X)) (k q j p : ℕ) (v d : X) → 
 cell_other t k q j p v d g hk hq e =
     place_written t k q j p v d g hk hq
     ∙ ⊎_elim (λ b. absurd (let h = and_parts (j == k) (p == q) b in e (eqb-true j k h.0, eqb-true p q h.1))) (λ b. cond-false _ _ _ b) (cases_Bool (j == k && p == q))
-
--- Sums, where one part falls and none rises.
-
-pub total_below : (f g : ℕ → ℕ) (m : ℕ) → ((k : ℕ) → k < m → f k ≤ g k) → total f m ≤ total g m
-unfolding total
-total_below f g zero h = omega arith
-total_below f g (suc m) h = omega (arith, h m (omega arith), total_below f g m (λ k l. h k (omega arith)))
-
--- What the part q gains is `more`, and what it gives up is `less`.
-total_trade : (f g : ℕ → ℕ) (m q less more : ℕ) → q < m → ((k : ℕ) → (k ≢ q) → f k ≤ g k) → f q + less ≤ g q + more → total f m + less ≤ total g m + more
-unfolding total
-total_trade f g zero q less more l h e = absurd (omega arith)
-total_trade f g (suc m) q less more l h e =
-    ⊎_elim
-    (λ (z : q ≡ m). let i : f m + less ≤ g m + more = subst (λ (j : ℕ). f j + less ≤ g j + more) z e in omega (arith, total_below f g m (λ k b. h k (λ w. omega arith))))
-    (λ d. omega (arith, h m (λ w. d (sym w)), total_trade f g m q less more (omega (arith, d)) h e))
-    (cases_eq q m)
 
 -- What a running card in round r still has to send.
 sends : (c : CardState) (s : Seat) (p : ℕ) → crashed_in c p ≡ false → 0 < s.round → to_send c s p ≡ (c.count - 1) * (c.count - s.round)
@@ -57,9 +42,9 @@ one_round_less w n r l =
 pub same_rounds : (c : CardState) (t u : List (List Seat)) → ((k p : ℕ) → (seat_in u k p).round ≡ (seat_in t k p).round)
     → total (λ k. total (λ p. to_send c (seat_in u k p) p) c.count) 32 ≤ total (λ k. total (λ p. to_send c (seat_in t k p) p) c.count) 32
 same_rounds c t u h =
-    total_below (λ k. total (λ p. to_send c (seat_in u k p) p) c.count) (λ k. total (λ p. to_send c (seat_in t k p) p) c.count) 32
+    total_le (λ k. total (λ p. to_send c (seat_in u k p) p) c.count) (λ k. total (λ p. to_send c (seat_in t k p) p) c.count) 32
     (λ k _.
-    total_below (λ p. to_send c (seat_in u k p) p) (λ p. to_send c (seat_in t k p) p) c.count
+    total_le (λ p. to_send c (seat_in u k p) p) (λ p. to_send c (seat_in t k p) p) c.count
     (λ p _. let e : to_send c (seat_in u k p) p ≡ to_send c (seat_in t k p) p = ap (λ r. cond (not (crashed_in c p) && nat_lt 0 r) ((c.count - 1) * (c.count - r)) 0) (h k p) in omega arith))
 
 -- What a card that may move has.
@@ -93,10 +78,10 @@ module _ (x : FloodingState) (k q : ℕ) (g : Shaped x.seats) (hk : k < 32) (few
       let after : to_send c (seat_in seats k q) q ≡ (n - 1) * (n - r) = sends c (seat_in seats k q) q up (omega arith) ∙ ap (λ i. (n - 1) * (n - i)) now in
       let row : total (λ p. to_send c (seat_in seats k p) p) n + (n - 1) ≤ total (λ p. to_send c (seat_in x.seats k p) p) n + more =
       total_trade (λ p. to_send c (seat_in seats k p) p) (λ p. to_send c (seat_in x.seats k p) p) n q (n - 1) more hq
-      (λ p d. let e : to_send c (seat_in seats k p) p ≡ to_send c (seat_in x.seats k p) p = ap (λ s. to_send c s p) (other k p (λ z. d z.1)) in omega arith) (omega arith) in
+      (λ p _ d. let e : to_send c (seat_in seats k p) p ≡ to_send c (seat_in x.seats k p) p = ap (λ s. to_send c s p) (other k p (λ z. d z.1)) in omega arith) (omega arith) in
       let all : total (λ j. total (λ p. to_send c (seat_in seats j p) p) n) 32 + (n - 1) ≤ total (λ j. total (λ p. to_send c (seat_in x.seats j p) p) n) 32 + more =
       total_trade (λ j. total (λ p. to_send c (seat_in seats j p) p) n) (λ j. total (λ p. to_send c (seat_in x.seats j p) p) n) 32 k (n - 1) more hk
-      (λ j d. total_below (λ p. to_send c (seat_in seats j p) p) (λ p. to_send c (seat_in x.seats j p) p) n
+      (λ j _ d. total_le (λ p. to_send c (seat_in seats j p) p) (λ p. to_send c (seat_in x.seats j p) p) n
       (λ p _. let e : to_send c (seat_in seats j p) p ≡ to_send c (seat_in x.seats j p) p = ap (λ s. to_send c s p) (other j p (λ z. d z.0)) in omega arith)) row in
       let load : Load = record { instance = k; round = here.round; known = here.known } in
       omega (arith, all, length-append x.wire (sent c q load n), length_sent_others c q load n hq)

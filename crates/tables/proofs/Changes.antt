@@ -6,9 +6,6 @@ use lib.Pow.{pow-lt}
 use Rattle.std.proofs.lemmas.List.{get_or_past}
 use Rattle.std.proofs.lemmas.Bool.{cases_Bool, cases_lt, cond-true, cond-false, cond_both, eqb-true, eq-eqb, lt-ltb, ltb-true}
 use Rattle.std.proofs.lemmas.Bool.Decides.{nat_tests}
--- For `flooding`, which still takes these from here, and calls the first `bool_same`.
-pub use Rattle.std.specs.Cmp.Derive.{one_truth as bool_same}
-pub use Rattle.wire.proofs.Wires.{nothing_left}
 use Rattle.notes.specs.Sets.{has, added}
 use Rattle.notes.proofs.Bits.{has_added, has_union}
 use Rattle.tables.specs.Tables.{poster_in, set_in, with_note, with_notes}

@@ -6,8 +6,6 @@ use Rattle.std.proofs.lemmas.List.Folds.{list_any-append}
 use Rattle.std.proofs.lemmas.List.Sums.{length-filter, count_by-le-length}
 use Rattle.std.proofs.lemmas.Bool.{cases_lt, cond-true, cond_both, or_left, or_right, or_cases}
 use Rattle.std.proofs.lemmas.Bool.Decides.{nat_tests}
--- For `flooding`, which still calls it `any_append`.
-pub use Rattle.std.proofs.lemmas.List.Folds.{list_any-append as any_append}
 use Rattle.parts.specs.Nets.{PartOf}
 use Rattle.parts.specs.Nets.PartOf.{none, stays, leaves}
 use Rattle.cards.specs.Cards.{CardState}

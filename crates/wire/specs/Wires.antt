@@ -1,7 +1,5 @@
 -- The wire: the items under way, in order; what joins its end, what is taken, and what a crash lets go.
 use Rattle.std.specs.Prelude.{ℕ, zero, suc, Bool, cond, not, ◌&&◌, List, [], ◌∷◌, ◌++◌, map, length, filter, ◌==◌, nat_lt}
--- For `flooding`, which still calls it `any_of`.
-pub use Rattle.std.specs.List.{list_any as any_of}
 use Rattle.wire.specs.declared.Item.{Item}
 use Rattle.cards.specs.Cards.{CardState, crashed_in}
 
