@@ -110,10 +110,12 @@ def early_returns(text):
         yield text.count("\n", 0, m.end()), "early return", give
 
 
+def sources(crate):
+    return [path for path in sorted((TOP / "crates" / crate / "src").glob("**/*.rt")) if path.name != "tests.rt"]
+
+
 def plants(crate):
-    for path in sorted((TOP / "crates" / crate / "src").glob("**/*.rt")):
-        if path.name == "tests.rt":
-            continue
+    for path in sources(crate):
         text = path.read_text()
         lines = text.split("\n")
         name = str(path.relative_to(TOP / "crates" / crate))
@@ -127,8 +129,41 @@ def plants(crate):
             yield {"crate": crate, "file": name, "line": number + 1, "recipe": recipe, "old": "", "new": give, "text": (number, give + "\n" + lines[number])}
 
 
-def spread(found, most):
-    """So many of them, the same at every run: spread over places and recipes."""
+def wrong_variants(lines, number):
+    """Another variant of an enum in the place of one, of those that this file names."""
+    for m in re.finditer(r"\b([A-Z]\w+)::([A-Z]\w+)\b", re.sub(r"//.*", "", lines[number])):
+        others = sorted({b for a, b in re.findall(r"\b([A-Z]\w+)::([A-Z]\w+)\b", "\n".join(lines)) if a == m.group(1) and b != m.group(2)})
+        if others:
+            yield "wrong variant", lines[number][: m.start(2)] + others[0] + lines[number][m.end(2) :]
+
+
+def lesser_plants_of_line(lines, number):
+    """Recipes for a crate in which the others find too few places."""
+    line = lines[number]
+    body = re.sub(r"//.*", "", line)
+    for m in re.finditer(r"(?<![\w.\"'])([1-9]\d*)(?![\w\"'])", body):
+        yield "constant", line[: m.start()] + str(int(m.group(1)) - 1) + line[m.end() :]
+    for m in re.finditer(r'"(\{\w*\}|[^"{\\])*?([a-y])', body):
+        yield "text", line[: m.start(2)] + chr(ord(m.group(2)) + 1) + line[m.end(2) :]
+    yield from wrong_variants(lines, number)
+    for m in re.finditer(r"\b(\w+)\.(\w+)\.(\w+)", body):
+        yield "dropped step", line[: m.start()] + m.group(1) + "." + m.group(3) + line[m.end() :]
+    if body.strip().startswith("if ") and body.rstrip().endswith("{"):
+        yield "dropped test", body.replace("if ", "if true || ", 1)
+
+
+def lesser_plants(crate):
+    for path in sources(crate):
+        text = path.read_text()
+        lines = text.split("\n")
+        for number in code_lines(text):
+            for recipe, new in lesser_plants_of_line(lines, number):
+                name = str(path.relative_to(TOP / "crates" / crate))
+                yield {"crate": crate, "file": name, "line": number + 1, "recipe": recipe, "old": lines[number].strip(), "new": new.strip(), "text": (number, new)}
+
+
+def spread(found):
+    """All of them in one order, the same at every run: spread over places and recipes."""
     found.sort(key=lambda p: hashlib.sha256(json.dumps([p["file"], p["line"], p["recipe"], p["new"]]).encode()).hexdigest())
     out, seen = [], {}
     for turn in range(len(found)):
@@ -188,7 +223,7 @@ def work(job):
     crate, most, folder = job
     done = []
     counted = 0
-    for plant in spread(list(plants(crate)), most):
+    for plant in spread(list(plants(crate))) + spread(list(lesser_plants(crate))):
         if counted >= most:
             break
         verdict, why = try_one(folder, plant)
