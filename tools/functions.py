@@ -169,9 +169,11 @@ def page():
 
 
 def main():
+    if sys.argv[1:] not in ([], ["--check"]):
+        sys.exit(__doc__.strip())
     text, missing = page()
     path = os.path.join(TOP, "docs", "FUNCTIONS.md")
-    if sys.argv[1:] != ["--check"]:
+    if not sys.argv[1:]:
         with open(path, "w") as out:
             out.write(text)
         return
@@ -181,7 +183,9 @@ def main():
         print("no edit for", name)
     if stale:
         print("docs/FUNCTIONS.md is not up to date: run tools/functions.py")
-    sys.exit(1 if stale or missing else 0)
+    if stale or missing:
+        sys.exit(1)
+    print("docs/FUNCTIONS.md is up to date, and every public function has an edit")
 
 
 if __name__ == "__main__":

@@ -1474,6 +1474,8 @@ def edits_amiss():
 
 
 def main():
+    if sys.argv[1:]:
+        sys.exit(__doc__.strip())
     schedules = list(collection())
     amiss = ["the second carrier differs from the report of " + name for name, schedule, told in schedules if r.report(schedule) != told]
     amiss += edits_amiss()
