@@ -13,7 +13,7 @@ TOP = Path(__file__).resolve().parent.parent
 PASSED_OVER = {"DESIGN-PASS.md", "PORT.md", "FUNCTIONS.md"}
 WORD = re.compile(r"[A-Za-z_][A-Za-z0-9_']*")
 # Stand-ins for what a reader gives, words of commands, and examples of what is wrong.
-OTHERS = set("PROGRAM CRATE EVENT REFUSAL BLOCK ERASES failed version wea x7 xor inturn_".split())
+OTHERS = set("PROGRAM CRATE SHELF COUNT EVENT REFUSAL CAUSE PLACE LAYER BLOCK ERASES failed version wea x7 xor inturn_".split())
 
 
 def paths(crate):
