@@ -1,3 +1,12 @@
+use allack::state::AllAck;
+use board::state::Board;
+use flooding::state::Flooding;
+use inturn::layer::InTurn;
+use parts::broadcast::Broadcast;
+use parts::consensus::Consensus;
+use register::state::Register;
+use relay::state::Relay;
+
 // The piles, by their words in a schedule file, with what the law asks to know of them.
 #[derive(Clone, Copy, Drop)]
 pub(crate) struct KnownPile {
@@ -8,28 +17,28 @@ pub(crate) struct KnownPile {
     pub(crate) proposal_bound: u32,
 }
 
-fn named(words: &'static str, uniform: bool, post_bound: u32, proposal_bound: u32) -> KnownPile {
+fn pile_of<B: Broadcast, C: Consensus>(words: &'static str, uniform: bool) -> KnownPile {
     KnownPile {
         words,
         uniform,
-        post_bound,
-        proposal_bound,
+        post_bound: B::bound(),
+        proposal_bound: C::bound(),
     }
 }
 
 pub(crate) fn piles() -> [KnownPile; 12] {
     [
-        named("relay flood", false, 30, 30),
-        named("relay register", false, 30, 1),
-        named("allack flood", true, 30, 30),
-        named("allack register", true, 30, 1),
-        named("board flood", true, 6, 30),
-        named("board register", true, 6, 1),
-        named("inturn relay flood", false, 30, 30),
-        named("inturn relay register", false, 30, 1),
-        named("inturn allack flood", true, 30, 30),
-        named("inturn allack register", true, 30, 1),
-        named("inturn board flood", true, 6, 30),
-        named("inturn board register", true, 6, 1),
+        pile_of::<Relay, Flooding>("relay flood", false),
+        pile_of::<Relay, Register>("relay register", false),
+        pile_of::<AllAck, Flooding>("allack flood", true),
+        pile_of::<AllAck, Register>("allack register", true),
+        pile_of::<Board, Flooding>("board flood", true),
+        pile_of::<Board, Register>("board register", true),
+        pile_of::<InTurn<Relay>, Flooding>("inturn relay flood", false),
+        pile_of::<InTurn<Relay>, Register>("inturn relay register", false),
+        pile_of::<InTurn<AllAck>, Flooding>("inturn allack flood", true),
+        pile_of::<InTurn<AllAck>, Register>("inturn allack register", true),
+        pile_of::<InTurn<Board>, Flooding>("inturn board flood", true),
+        pile_of::<InTurn<Board>, Register>("inturn board register", true),
     ]
 }
