@@ -1,12 +1,17 @@
 // Ranks the notes of a schedule file: the file on standard input, the notes in ranking order on standard output.
 #![tactic(auto)]
 
+ghost use Rattle.std.specs.Prelude.{◌≡◌, ◌++◌, IfOk, codes, string_bytes};
+ghost use Rattle.faults.specs.Faults.{fault_text};
+
 mod listing;
 
 use crate::listing::print_ranked;
 use anyhow::anyhow;
+use faults::FileFault;
 use reader::file::{Notes, Schedule, Unread};
 use reader::read::read;
+use std::alloc::{AllocError, Global};
 use std::io::Read;
 
 // Each arm prints notes of another type.
@@ -17,11 +22,19 @@ fn print_notes(rt: &HostRuntime, notes: Notes<'_>) -> anyhow::Result<()> {
     }
 }
 
+// What is printed of a file that does not read, as in a report. It has a contract, since the one stored input of this program does read.
+fn fault_words(heap: Global, fault: FileFault) -> Result<String, AllocError>
+    ensures { IfOk result (λ out. string_bytes out ≡ codes "bad " ++ fault_text fault) }
+{
+    format!(in heap; "bad {fault}")
+}
+
 fn print_report(rt: &HostRuntime, file: &[u8]) -> anyhow::Result<()> {
     match read(rt.alloc(), file) {
         Ok(Schedule { notes, .. }) => print_notes(rt, notes),
         Err(Unread::Fault(fault)) => {
-            println!(rt; "bad {fault}")?;
+            let words = fault_words(rt.alloc(), fault)?;
+            println!(rt; "{words}")?;
             Ok(())
         }
         Err(Unread::NoMemory) => Err(anyhow!("no memory for the schedule")),
