@@ -39,6 +39,7 @@ class Seen:
         self.steps, self.rest = int(steps), end == "rest"
         accepted = [call for i, call in enumerate(calls) if i not in refused]
         self.poster = {str(v[1]): v[0] for letter, v in accepted if letter == "b"}
+        self.told_apart = down == {v[0] for letter, v in accepted if letter == "x"}
         suspected = {tuple(v) for letter, v in accepted if letter == "s"}
         self.running = {p: log for p, log in self.logs.items() if p not in down}
         self.crashed = {p: log for p, log in self.logs.items() if p in down}
@@ -79,6 +80,8 @@ def breaks(program, schedule, uniform, bounds):
         return ["what it prints is no report"]
     if sorted(seen.logs) != list(range(cards)):
         return ["not every card has its log"]
+    if not seen.told_apart:
+        return ["the cards that are down are not those that crashed"]
     return list(broken(seen, uniform, bounds and bounds[0] + cards * (bounds[1] + 2)))
 
 

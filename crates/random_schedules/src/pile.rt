@@ -17,7 +17,7 @@ pub(crate) struct KnownPile {
     pub(crate) proposal_bound: u32,
 }
 
-fn pile_of<B: Broadcast, C: Consensus>(words: &'static str, uniform: bool) -> KnownPile {
+fn known<B: Broadcast, C: Consensus>(words: &'static str, uniform: bool) -> KnownPile {
     KnownPile {
         words,
         uniform,
@@ -28,17 +28,17 @@ fn pile_of<B: Broadcast, C: Consensus>(words: &'static str, uniform: bool) -> Kn
 
 pub(crate) fn piles() -> [KnownPile; 12] {
     [
-        pile_of::<Relay, Flooding>("relay flood", false),
-        pile_of::<Relay, Register>("relay register", false),
-        pile_of::<AllAck, Flooding>("allack flood", true),
-        pile_of::<AllAck, Register>("allack register", true),
-        pile_of::<Board, Flooding>("board flood", true),
-        pile_of::<Board, Register>("board register", true),
-        pile_of::<InTurn<Relay>, Flooding>("inturn relay flood", false),
-        pile_of::<InTurn<Relay>, Register>("inturn relay register", false),
-        pile_of::<InTurn<AllAck>, Flooding>("inturn allack flood", true),
-        pile_of::<InTurn<AllAck>, Register>("inturn allack register", true),
-        pile_of::<InTurn<Board>, Flooding>("inturn board flood", true),
-        pile_of::<InTurn<Board>, Register>("inturn board register", true),
+        known::<Relay, Flooding>("relay flood", false),
+        known::<Relay, Register>("relay register", false),
+        known::<AllAck, Flooding>("allack flood", true),
+        known::<AllAck, Register>("allack register", true),
+        known::<Board, Flooding>("board flood", true),
+        known::<Board, Register>("board register", true),
+        known::<InTurn<Relay>, Flooding>("inturn relay flood", false),
+        known::<InTurn<Relay>, Register>("inturn relay register", false),
+        known::<InTurn<AllAck>, Flooding>("inturn allack flood", true),
+        known::<InTurn<AllAck>, Register>("inturn allack register", true),
+        known::<InTurn<Board>, Flooding>("inturn board flood", true),
+        known::<InTurn<Board>, Register>("inturn board register", true),
     ]
 }

@@ -23,7 +23,7 @@ fn print_notes(rt: &HostRuntime, notes: Notes<'_>) -> anyhow::Result<()> {
 }
 
 // What is printed of a file that does not read, as in a report. It has a contract, since the one stored input of this program does read.
-fn fault_words(heap: Global, fault: FileFault) -> Result<String, AllocError>
+fn bad_line(heap: Global, fault: FileFault) -> Result<String, AllocError>
     ensures { IfOk result (λ out. string_bytes out ≡ codes "bad " ++ fault_text fault) }
 {
     format!(in heap; "bad {fault}")
@@ -33,8 +33,8 @@ fn print_report(rt: &HostRuntime, file: &[u8]) -> anyhow::Result<()> {
     match read(rt.alloc(), file) {
         Ok(Schedule { notes, .. }) => print_notes(rt, notes),
         Err(Unread::Fault(fault)) => {
-            let words = fault_words(rt.alloc(), fault)?;
-            println!(rt; "{words}")?;
+            let line = bad_line(rt.alloc(), fault)?;
+            println!(rt; "{line}")?;
             Ok(())
         }
         Err(Unread::NoMemory) => Err(anyhow!("no memory for the schedule")),
