@@ -97,14 +97,13 @@ def functions(crate):
 
 
 def edits(crate):
-    """The edits of a crate: the name, the folder, the file, the place that it changes, and the text that stood there."""
-    for folder in ("must-fail", "edits"):
-        where = os.path.join(TOP, "crates", crate, folder)
-        for name in sorted(os.listdir(where)) if os.path.isdir(where) else []:
-            with open(os.path.join(where, name)) as lines:
-                told = dict(line.rstrip("\n").split(": ", 1) for line in lines if ": " in line)
-            with open(os.path.join(TOP, "crates", crate, told["file"])) as source:
-                yield name[: -len(".edit")], folder, told["file"], source.read().index(told["old"]), told["old"]
+    """The edits of a crate: the name, the file, the place that it changes, and the text that stood there."""
+    where = os.path.join(TOP, "crates", crate, "must-fail")
+    for name in sorted(os.listdir(where)) if os.path.isdir(where) else []:
+        with open(os.path.join(where, name)) as lines:
+            told = dict(line.rstrip("\n").split(": ", 1) for line in lines if ": " in line)
+        with open(os.path.join(TOP, "crates", crate, told["file"])) as source:
+            yield name[: -len(".edit")], told["file"], source.read().index(told["old"]), told["old"]
 
 
 def calls(function, other):
@@ -126,13 +125,13 @@ def table(crate):
     known = functions(crate)
     program = os.path.exists(os.path.join(TOP, "crates", crate, "src", "main.rt"))
     edited = {f: [] for f in known if f.public and (f.clauses or not program)}
-    for name, folder, path, at, old in edits(crate):
+    for name, path, at, old in edits(crate):
         inside = [f for f in known if f.path == path and f.start <= at < f.end]
         constant = re.match(r"[A-Z_]+\b", old)
         if not inside and constant:
             inside = [f for f in known if constant.group() in f.body]
         for f in {p for g in inside for p in public_above(g, known, set())} & set(edited):
-            edited[f].append("`%s`" % name if folder == "must-fail" else name)
+            edited[f].append("`%s`" % name)
     for f in edited:
         # A method of a trait that is the type's own method of that name has that one's edits.
         own = [g for g in known if f.owner and " as " in f.owner["name"] and g.label() == f.owner["name"].split(" as ")[0] + "::" + f.name]
@@ -153,8 +152,8 @@ def page():
         "# Public functions",
         "",
         "Written by `tools/functions.py`. For each public function: the names of the clauses of its contract (`returns` where a clause has no name), and",
-        "the edits of its code, or of private code that it calls, that the prover refuses. Those in `code` are tried by the gate, the others by",
-        "`tools/edits`. A function of a trait stands here once where it is declared, with its contract, and once for each implementation.",
+        "the edits of its code, or of private code that it calls, that the prover refuses; the gate tries each.",
+        "A function of a trait stands here once where it is declared, with its contract, and once for each implementation.",
         "",
     ]
     missing = []
