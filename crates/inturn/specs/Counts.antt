@@ -52,7 +52,7 @@ free_all posts s p (suc k) h =
     grind (arith, nat_tests, u, r, m)
 
 -- A post counts where it and the earlier posts of its card are in the set.
-pub clear_each : (posts : List Post) (s i : ℕ) → (post_at posts i).card < 32 → counts posts s i ≡ true → (j : ℕ) → j ≤ i → (post_at posts j).card ≡ (post_at posts i).card → has s (post_at posts j).note ≡ true
+clear_each : (posts : List Post) (s i : ℕ) → (post_at posts i).card < 32 → counts posts s i ≡ true → (j : ℕ) → j ≤ i → (post_at posts j).card ≡ (post_at posts i).card → has s (post_at posts j).note ≡ true
 clear_each posts s i l h j o e =
     let t = and_parts _ _ h in
     ⊎_elim (λ q. ap (λ k. has s (post_at posts k).note) q ∙ t.0) (λ q. free_each posts s _ i l (not-true _ t.1) j (omega (arith, q)) e) (cases_eq j i)
@@ -98,7 +98,7 @@ place_counted posts s (suc k) m c =
     (cases_eq c.place k)
 
 -- Two sets with the same notes, by two implications.
-pub same_notes : (s t : ℕ) → ((m : ℕ) → has s m ≡ true → has t m ≡ true) → ((m : ℕ) → has t m ≡ true → has s m ≡ true) → s ≡ t
+same_notes : (s t : ℕ) → ((m : ℕ) → has s m ≡ true → has t m ≡ true) → ((m : ℕ) → has t m ≡ true → has s m ≡ true) → s ≡ t
 same_notes s t f g = same_sets s t (λ m. let a = f m in let b = g m in grind (arith, nat_tests, a, b))
 
 -- What counts is in the set.
