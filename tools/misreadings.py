@@ -80,6 +80,7 @@ UNTOLD = {
         "inturn/into_lower_crashes_a_card",
         "inturn/into_one_layer_posts",
     ],
+    "no note above 31 is ever posted": ["inturn/post_of_a_note_above_31_not_recorded"],
     "nobody asks what a crashed card was handed: it may not propose, and rest looks at running cards": ["inturn/handed_of_crashed_card_emptied"],
     "nobody asks what a crashed card decided: it may not take, and rest looks at running cards": ["register/decides_at_crashed_card"],
     "the register does nothing at a suspicion, and the broadcast says whether it is accepted": ["register/suspects_backwards"],
@@ -1049,8 +1050,8 @@ def _(right):
     "in-turn: all counts that is handed below",
     r,
     "held_in_turn",
+    "inturn/blocked_card_forgotten",
     "inturn/handed_as_below",
-    "inturn/needs_without_the_earlier_posts",
 )
 def _(right):
     return lambda order, poster, below: set(below)
@@ -1061,7 +1062,7 @@ def _(right):
     return lambda order, poster, below: right(sorted(order), poster, below)
 
 
-@reading("in-turn: posters are not compared", r, "held_in_turn", "inturn/poster_not_compared")
+@reading("in-turn: posters are not compared", r, "held_in_turn", "inturn/missing_note_blocks_every_card")
 def _(right):
     return lambda order, poster, below: right(order, {m: 0 for m in poster}, below)
 
@@ -1085,7 +1086,7 @@ def _(right):
     return held
 
 
-@reading("in-turn: the last post of each card does not count", r, "held_in_turn", "inturn/needs_without_the_note_itself")
+@reading("in-turn: the last post of each card does not count", r, "held_in_turn")
 def _(right):
     def held(order, poster, below):
         last = {poster[m]: m for m in order}
@@ -1094,7 +1095,7 @@ def _(right):
     return held
 
 
-@reading("in-turn: all posts of a card count once one of them is handed", r, "held_in_turn", "inturn/any_of_the_needs_handed")
+@reading("in-turn: all posts of a card count once one of them is handed", r, "held_in_turn", "inturn/any_of_the_posts_handed")
 def _(right):
     def held(order, poster, below):
         begun = {poster[m] for m in order if m in below}
@@ -1103,23 +1104,12 @@ def _(right):
     return held
 
 
-@reading("in-turn: of all that counts, only the posts of the last one's card do", r, "held_in_turn", "inturn/looks_end_where_one_counts")
+@reading("in-turn: the walk is from the end, so that a missing note keeps back the earlier ones", r, "held_in_turn", "inturn/walk_from_the_end")
 def _(right):
-    def held(order, poster, below):
-        out = right(order, poster, below)
-        last = [poster[m] for m in order if m in out][-1:]
-        return {m for m in out if poster[m] in last}
-
-    return held
+    return lambda order, poster, below: right(order[::-1], poster, below)
 
 
-@reading(
-    "in-turn: a refused post blocks its poster",
-    r.Broadcast,
-    "post",
-    "inturn/refused_post_recorded",
-    "inturn/table_filled_before_post_accepted",
-)
+@reading("in-turn: a refused post blocks its poster", r.Broadcast, "post", "inturn/refused_post_recorded")
 def _(right):
     def post(self, p, m):
         try:
@@ -1137,7 +1127,13 @@ def _(right):
     return lambda order, poster, below: right(order, poster, below) - set(order[:1])
 
 
-@reading("in-turn: there is no room for the last of 32 posts", r, "held_in_turn", "inturn/last_post_not_recorded")
+@reading(
+    "in-turn: there is no room for the last of 32 posts",
+    r,
+    "held_in_turn",
+    "inturn/last_post_not_recorded",
+    "inturn/room_for_31_posts",
+)
 def _(right):
     return lambda order, poster, below: right(order[:31], poster, below)
 
