@@ -1,7 +1,8 @@
 // Parts of a file, and cutting them: at a byte, and into lines.
-ghost use Rattle.std.specs.Prelude.{◌≡◌, ◌≤◌, length, position, ◌==◌};
+ghost use Rattle.std.specs.Prelude.{◌≡◌, ◌≤◌, length, position, IfErr, ◌==◌};
 ghost use Rattle.std.specs.Option.{option_map};
 ghost use Rattle.text.specs.Parts.{part_of, place_of, up_to, whole_of, before, after, both_of, line_of};
+ghost use Rattle.text.specs.Faults.{line_case, DueIn};
 
 use crate::fault::LineFault;
 
@@ -59,7 +60,8 @@ impl<'a> Part<'a> {
 
     // The first line, without the byte that ends it, and what follows.
     pub fn line(self) -> Result<(Part<'a>, Part<'a>), LineFault>
-        ensures { both_of result ≡ line_of (part_of self.entry) }
+        ensures value { both_of result ≡ line_of (part_of self.entry) }
+        ensures case { IfErr result (λ f. DueIn (part_of self.entry) (line_case f)) }
     {
         let place = self.place();
         match self.cut(b'\n') {
