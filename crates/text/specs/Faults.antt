@@ -17,7 +17,10 @@ abbrev pub fault_place : LineFault → ℕ
 fault_place f = (line_case f).place
 
 -- A line that was due in a part starts there, or else at its end, where no byte is left: there it is absent.
-abbrev pub DueIn : Span → LineCase → Type 0
-DueIn p c =
+abbrev pub StartsIn : Span → LineCase → Type 0
+StartsIn p c =
     (p.1 - length p.0 ≤ c.place) × (c.place ≤ p.1)
     × MatchBool c.absent (c.place ≡ p.1) (length p.0 ≤ p.1 → c.place < p.1)
+
+unfoldable pub DueIn : Span → LineFault → Type 0
+DueIn p f = StartsIn p (line_case f)
