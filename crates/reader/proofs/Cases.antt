@@ -1,5 +1,5 @@
 -- What the cases of the answers say of the file, and of the part in which a line was due.
-use Rattle.std.proofs.Common.{◌≡◌, ℕ, ◌<◌, ◌≤◌, true, false, ltb, List, ◌++◌, length, is_ok, Ok, Err, Option, Result, sym, refl, ap, ◌∙◌, ⊎_elim, inl, inr, arith, length-append}
+use Rattle.std.proofs.Common.{◌≡◌, ℕ, ◌<◌, ◌≤◌, true, false, ltb, List, [], ◌++◌, length, is_ok, Ok, Err, Option, Result, sym, refl, ap, ◌∙◌, ⊎_elim, inl, inr, arith, length-append}
 use Rattle.std.specs.Prelude.{IfErr}
 use Rattle.std.proofs.lemmas.Bool.Decides.{nat_tests}
 use Rattle.std.proofs.lemmas.Bool.{cases_Bool, cond-true}
@@ -33,7 +33,7 @@ use Rattle.reader.proofs.FileTexts.{not_long, file_says}
 
 end_err : {A : Type 0} (s : Result (A × Span) LineFault) (f : LineFault) → Err f ≡ end_of s → s ≡ Err f
 end_err (Ok q) f e = absurd (grind arith)
-end_err (Err g) f e = sym e
+end_err (Err g) f e = let q : f ≡ g = cc in ap (λ h. Err h) (sym q)
 
 module _ {A B : Type 0} (rule : Span → Option A) (put : ℕ → B → A) (text : B → List ℕ) (Fit : B → Type 0) (w : ReadsWritten rule put text Fit) where
   section_due : (count : ℕ) (p : Span) (r : Result Part LineFault) → end_seen r ≡ end_of (lines_of rule count p) → IfErr r (DueIn p)
