@@ -1,6 +1,9 @@
 // The events of a schedule as calls on a carrier.
 #![tactic(auto)]
 
+#[cfg(test)]
+mod tests;
+
 ghost use Rattle.std.specs.Prelude.{◌≡◌, map, IfOk};
 ghost use Rattle.event_calls.specs.Calls.{call_of};
 
