@@ -25,9 +25,8 @@ use Rattle.flooding.specs.declared.seats.Seat.{Seat}
 use Rattle.flooding.specs.Mail.{is_for, taking_in, stays_kept, still_kept}
 use Rattle.flooding.specs.declared.mail.Load.{Load}
 use Rattle.flooding.specs.Flooding.{FloodingState, seat_on, enter_on, decide_on, proposal_of, may_move}
-use Rattle.flooding.specs.Made.{fates_of, brings, Underway}
-use Rattle.flooding.specs.Sound.{Stands, Says, SaysIn, TiedSeats, SoundFlooding}
-use Rattle.flooding.specs.Counted.{each_counted}
+use Rattle.flooding.specs.Made.{fates_of, brings, Underway, Stands, Says, SaysIn, Tied, SoundFlooding}
+use Rattle.flooding.specs.Counted.{all_decides}
 use Rattle.tables.proofs.Written.{shaped_after}
 use Rattle.flooding.specs.Works.{cell_same, cell_other, may_move_means}
 use Rattle.flooding.specs.Pasts.{Further, no_further, passing_further, then_further, none_beyond}
@@ -64,7 +63,7 @@ module _ (x : FloodingState) (k q : ℕ) (g : SoundFlooding x) (hk : k < 32) (bq
   abbrev n : ℕ
   n = x.cards.count
 
-  abbrev tie : TiedSeats x k
+  abbrev tie : Tied x k
   tie = g.tied k hk
 
   six : q < 6
@@ -208,7 +207,7 @@ module _ (x : FloodingState) (k q : ℕ) (g : SoundFlooding x) (hk : k < 32) (bq
         all = λ y b u.
             ap (λ i. now.counted q i y) stage_is_round
             ∙ sym ((t.stands q bq).seated.counts y b)
-            ∙ ⊎_elim (λ e. absurd (both_ways (suspects_in c q y) u e)) (λ e. e) (or_cases (suspects_in c q y) (has s.counted y) (each_counted c q s c.count y b o.3));
+            ∙ ⊎_elim (λ e. absurd (both_ways (suspects_in c q y) u e)) (λ e. e) (or_cases (suspects_in c q y) (has s.counted y) ((all_decides c q s c.count).0 o.3 y b));
       })
 
   next_further : (r : ℕ) → suc round ≡ r → Further now next q r

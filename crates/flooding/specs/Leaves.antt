@@ -8,8 +8,7 @@ use Rattle.wire.specs.declared.Item.{Item}
 use Rattle.wire.proofs.Items.{all_removed, any_split}
 use Rattle.flooding.specs.declared.mail.Load.{Load}
 use Rattle.flooding.specs.Flooding.{FloodingState}
-use Rattle.flooding.specs.Made.{brings, Underway}
-use Rattle.flooding.specs.Sound.{SaysIn, TiedSeats, SoundFlooding}
+use Rattle.flooding.specs.Made.{brings, Underway, SaysIn, Tied, SoundFlooding}
 
 -- Which item is asked for.
 pub brings_parts : (k r p q : ℕ) (y : Item Load) → brings k r p q y ≡ true → (y.from ≡ p) × (y.to ≡ q) × (y.load.instance ≡ k) × (y.load.round ≡ r)
@@ -22,11 +21,11 @@ brings_parts k r p q y b =
 -- The item of card p to card q in round r of instance k need not be under way.
 abbrev pub Accounted : FloodingState → List (Item Load) → ℕ → ℕ → ℕ → ℕ → Type 0
 Accounted x kept k r p q =
-    (g : TiedSeats x k) → crashed_in x.cards p ≡ false → crashed_in x.cards q ≡ false → g.past.round q ≤ r
+    (g : Tied x k) → crashed_in x.cards p ≡ false → crashed_in x.cards q ≡ false → g.past.round q ≤ r
     → ((g.past.round q < r) × (list_any (brings k r p q) kept ≡ true)) ⊎ (g.past.counted q r p ≡ true)
 
 pub leave_whole : (x : FloodingState) (i : ℕ) (y : Item Load) (kept : List (Item Load)) → SoundFlooding x → slice_get x.wire i ≡ Some y
-    → ((k : ℕ) (g : TiedSeats x k) → AllByRecursion (SaysIn x.cards.count g.past k) kept)
+    → ((k : ℕ) (g : Tied x k) → AllByRecursion (SaysIn x.cards.count g.past k) kept)
     → ((k r p q : ℕ) → list_any (brings k r p q) x.kept ≡ true → list_any (brings k r p q) kept ≡ true)
     → Accounted x kept y.load.instance y.load.round y.from y.to
     → SoundFlooding (record { cards = x.cards; proposals = x.proposals; decisions = x.decisions; seats = x.seats; wire = remove x.wire i; kept = kept })

@@ -18,8 +18,7 @@ use Rattle.flooding.specs.Seats.{entering, hearing}
 use Rattle.flooding.specs.declared.seats.Seat.{Seat}
 use Rattle.flooding.specs.Mail.{is_for, taking_one, taking_in}
 use Rattle.flooding.specs.declared.mail.Load.{Load}
-use Rattle.flooding.specs.Made.{fates_of, brings}
-use Rattle.flooding.specs.Sound.{Seated, Says, SaysIn}
+use Rattle.flooding.specs.Made.{fates_of, brings, Seated, Says, SaysIn}
 use Rattle.flooding.specs.Mails.{taking_one_round}
 use Rattle.flooding.specs.Pasts.{Further, no_further, round_grows, then_further, counting_further, any_same, heard_stays}
 

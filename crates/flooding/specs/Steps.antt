@@ -9,8 +9,7 @@ use Rattle.flooding.specs.Seats.{no_seat, seat_in, with_seat, entering, ready}
 use Rattle.flooding.specs.declared.seats.Seat.{Seat}
 use Rattle.flooding.specs.Mail.{taking_in}
 use Rattle.flooding.specs.Flooding.{FloodingState, seat_on, enter_on, decide_on, proposal_of, may_move, move_on, step_on, steps_on, settle_on, through_on}
-use Rattle.flooding.specs.Made.{stage_of}
-use Rattle.flooding.specs.Sound.{SoundFlooding}
+use Rattle.flooding.specs.Made.{stage_from, SoundFlooding}
 use Rattle.flooding.specs.Mails.{taking_round}
 use Rattle.tables.proofs.Written.{shaped_after}
 use Rattle.flooding.specs.Works.{cell_same, cell_other, may_move_means, step_cards}
@@ -42,6 +41,9 @@ module _ (x : FloodingState) (k q : ℕ) (g : Shaped x.seats) (hk : k < 32) (six
   enter_stays j p e =
       ap (λ u. nat_lt p x.cards.count && (not (is_some (ballot_in x.decisions j p)) && ready x.cards p u))
       (cell_other first k q j p last no_seat entered_shaped hk six e ∙ cell_other x.seats k q j p (entering q r known) no_seat g hk six e)
+
+abbrev stage_of : FloodingState → ℕ → ℕ → ℕ
+stage_of x k p = stage_from x.cards.count (ballot_in x.decisions k p) (seat_in x.seats k p)
 
 -- One move takes the card one stage further.
 module _ (x : FloodingState) (k q : ℕ) (g : SoundFlooding x) (hk : k < 32) (u : Running x.cards q) where
