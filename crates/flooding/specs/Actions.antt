@@ -36,10 +36,10 @@ pub record Action (x : FloodingState) (t d : List (List (Option ℕ))) (ss : Lis
   pub moved : Further g.past l q r
   pub stands : Stands x.cards.count l t k q (ballot_in d k q) (seat_in ss k q)
   pub items : AllByRecursion (Underway x.cards) w
-  pub wire_true : AllByRecursion (SaysIn x.cards.count l k) w
+  pub wire_says : AllByRecursion (SaysIn x.cards.count l k) w
   pub wire_others : (j : ℕ) → (j ≢ k) → (o : Tied x j) → AllByRecursion (SaysIn x.cards.count o.past j) w
   pub wire_stays : (j s a b : ℕ) → list_any (brings j s a b) x.wire ≡ true → list_any (brings j s a b) w ≡ true
-  pub kept_true : AllByRecursion (SaysIn x.cards.count l k) ks
+  pub kept_says : AllByRecursion (SaysIn x.cards.count l k) ks
   pub kept_others : (j : ℕ) → (j ≢ k) → (o : Tied x j) → AllByRecursion (SaysIn x.cards.count o.past j) ks
   -- all stays kept but what was kept for it and the round that it comes to
   pub kept_stays : (j s a b : ℕ) → ((j ≡ k) × (s ≡ r) × (b ≡ q) → ⊥) → list_any (brings j s a b) x.kept ≡ true → list_any (brings j s a b) ks ≡ true
@@ -75,8 +75,8 @@ module _ (x : FloodingState) (t d : List (List (Option ℕ))) (ss : List (List S
         past = o.past;
         history = o.history;
         stands = λ p b. elsewhere_stands o.past j p (λ i. e i.0) (o.stands p b);
-        wire_true = a.wire_others j e o;
-        kept_true = a.kept_others j e o;
+        wire_says = a.wire_others j e o;
+        kept_says = a.kept_others j e o;
         due = λ p b s bp bb i up ub o1 m hp hb. ⊎_elim (λ v. inl (a.wire_stays j s p b v)) (⊎_elim (λ v. inr (inl (v.0, a.kept_stays j s p b (λ z. e z.0) v.1))) (λ v. inr (inr v))) (o.due p b s bp bb i up ub o1 m hp hb);
       }
 
@@ -135,8 +135,8 @@ module _ (x : FloodingState) (t d : List (List (Option ℕ))) (ss : List (List S
               decided = u.decided;
             }))
             (cases_eq p q);
-        wire_true = a.wire_true;
-        kept_true = a.kept_true;
+        wire_says = a.wire_says;
+        kept_says = a.kept_says;
         due = due_after;
       }
 

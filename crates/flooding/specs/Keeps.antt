@@ -7,7 +7,7 @@ use Rattle.std.proofs.Math.Pow.{pow-lt}
 use Rattle.std.specs.List.{slice_get, AllByRecursion, list_any}
 use Rattle.std.proofs.ByRecursion.{All-push, All-weaker}
 use Rattle.std.proofs.lemmas.List.Folds.{list_any-append}
-use Rattle.std.proofs.lemmas.Bool.{and_parts, and_from, and_left, and_right, or_parts, or_cases, or_left, or_right, eqb-true, eqb-false, eq-eqb, ne_eqb, lt-ltb, ltb-true, ltb-false, not-true, not_from_false, cases_Bool, cases_eq, cond-true, cond-false, cond_both, both_ways}
+use Rattle.std.proofs.lemmas.Bool.{and_parts, and_left, and_right, or_parts, or_cases, or_left, or_right, eqb-true, eqb-false, ne_eqb, lt-ltb, ltb-true, ltb-false, not-true, not_from_false, cases_Bool, cases_eq, cond-true, cond-false, cond_both, both_ways}
 use Rattle.notes.specs.Sets.{has, added}
 use Rattle.notes.proofs.Bits.{has_none, has_added}
 use Rattle.parts.specs.Refusals.{propose_answer, carry_answer, lose_answer, crash_answer, suspect_answer}
@@ -37,7 +37,7 @@ use Rattle.flooding.specs.Sits.{hearing_counts}
 use Rattle.flooding.specs.Actions.{Elsewhere, here_or_elsewhere}
 use Rattle.flooding.specs.Enters.{in_round, hear_whole, enters_whole}
 use Rattle.flooding.specs.Steps.{seat_stays, enter_stays, settles, goes_through}
-use Rattle.flooding.specs.Leaves.{brings_parts, Accounted, leave_whole}
+use Rattle.flooding.specs.Leaves.{brings_parts, brings_itself, Accounted, leave_whole}
 
 -- A new one.
 
@@ -82,8 +82,8 @@ new_made n =
               past = beginning;
               history = (moves_make_histories c.count).beginning_is (fates_of c) (λ p y. same_rows 6 6 p y false);
               stands = λ p b. new_stands c.count k p;
-              wire_true = tt;
-              kept_true = tt;
+              wire_says = tt;
+              kept_says = tt;
               due = λ p q r bp bq d up uq o l h m. absurd (omega arith);
             };
       };
@@ -152,10 +152,10 @@ module _ (x : FloodingState) (i : ℕ) (y : Item Load) (m : MadeFlooding x) (at 
   under = all_nth (Underway x.cards) x.wire i y g.items at
 
   says : (j : ℕ) (t : Tied x j) → y.load.instance ≡ j → Says x.cards.count t.past y
-  says j t = all_nth (SaysIn x.cards.count t.past j) x.wire i y t.wire_true at
+  says j t = all_nth (SaysIn x.cards.count t.past j) x.wire i y t.wire_says at
 
   left : Accounted x x.kept k y.load.round y.from q → MadeFlooding (lose_on x i)
-  left a = record { whole = leave_whole x i y x.kept g at (λ j t. t.kept_true) (λ j r p b w. w) a; settled = m.settled }
+  left a = record { whole = leave_whole x i y x.kept g at (λ j t. t.kept_says) (λ j r p b w. w) a; settled = m.settled }
 
   stage : (t : Tied x k) → is_some (ballot_in x.decisions k q) ≡ false → t.past.round q ≡ (seat_in x.seats k q).round
   stage t u = (t.stands q under.receiver).stage ∙ cond-false _ _ _ u
@@ -164,12 +164,12 @@ module _ (x : FloodingState) (i : ℕ) (y : Item Load) (m : MadeFlooding x) (at 
   kept_made u l =
       record {
         whole = leave_whole x i y (x.kept ++ y ∷ []) g at
-            (λ j t. All-push (SaysIn x.cards.count t.past j) x.kept y t.kept_true (says j t))
+            (λ j t. All-push (SaysIn x.cards.count t.past j) x.kept y t.kept_says (says j t))
             (λ j r p b w. list_any-append (brings j r p b) x.kept (y ∷ []) ∙ or_left _ _ w)
             (λ t up uq h. inl (
               omega (arith, stage t u),
               list_any-append (brings k y.load.round y.from q) x.kept (y ∷ [])
-                  ∙ or_right (list_any (brings k y.load.round y.from q) x.kept) _ (or_left _ false (and_from _ _ (and_from _ _ (eq-eqb k k refl) (eq-eqb y.load.round y.load.round refl)) (and_from _ _ (eq-eqb y.from y.from refl) (eq-eqb q q refl)))),
+                  ∙ or_right (list_any (brings k y.load.round y.from q) x.kept) _ (or_left _ false (brings_itself y)),
             ));
         settled = m.settled;
       }
@@ -187,7 +187,7 @@ module _ (x : FloodingState) (i : ℕ) (y : Item Load) (m : MadeFlooding x) (at 
       ap (λ (v : Seat). has v.counted y.from) same ∙ hearing_counts c q y.from y.load.known s (omega (arith, w.sender, g.sound.few)) trusts in
       let heard : SoundFlooding (hear_on x y) = hear_whole x k q g hk w.receiver w.up u y (says k (g.tied k hk) refl) refl (sym e) in
       let whole : SoundFlooding (hear_on (lose_on x i) y) =
-      leave_whole (hear_on x y) i y x.kept heard at (λ j t. t.kept_true) (λ j r p b v. v)
+      leave_whole (hear_on x y) i y x.kept heard at (λ j t. t.kept_says) (λ j r p b v. v)
       (λ t up uq h. inr (ap (λ r. t.past.counted q r y.from) (sym round) ∙ sym ((t.stands q w.receiver).seated.counts y.from w.sender) ∙ counted)) in
       settle_made (hear_on (lose_on x i) y) k q whole hk (w.receiver, w.up) (λ j p hj up d. seat_stays x k q j p s' g hk w.receiver d ∙ m.settled j p hj up)
 
@@ -284,8 +284,8 @@ crash_made x p m h =
               past = t.past;
               history = (moves_make_histories c.count).later_keeps (fates_of c) (fates_of (with_crash c p)) t.past t.history (crash_later x p s f.0);
               stands = t.stands;
-              wire_true = all_left (SaysIn c.count t.past k) (SaysIn c.count t.past k) (elsewhere p) x.wire (λ y e _. e) t.wire_true;
-              kept_true = t.kept_true;
+              wire_says = all_left (SaysIn c.count t.past k) (SaysIn c.count t.past k) (elsewhere p) x.wire (λ y e _. e) t.wire_says;
+              kept_says = t.kept_says;
               due = λ a q r ba bq d ua uq o n ha hq. ⊎_elim (λ w. inl (crash_leaves x p s f.0 k r a q uq w)) (λ e. inr e) (t.due a q r ba bq d (before a ua).1 (before q uq).1 o n ha hq);
             };
       };
@@ -325,8 +325,8 @@ suspect_made x q p m h =
             past = t.past;
             history = (moves_make_histories c.count).later_keeps (fates_of c) (fates_of e) t.past t.history later;
             stands = t.stands;
-            wire_true = t.wire_true;
-            kept_true = t.kept_true;
+            wire_says = t.wire_says;
+            kept_says = t.kept_says;
             due = t.due;
           };
     } in

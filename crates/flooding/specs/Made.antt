@@ -58,8 +58,8 @@ pub record Tied (x : FloodingState) (k : ℕ) : Type 0 where
   pub past : Past
   pub history : History x.cards.count (fates_of x.cards) past
   pub stands : (p : ℕ) → p < x.cards.count → Stands x.cards.count past x.proposals k p (ballot_in x.decisions k p) (seat_in x.seats k p)
-  pub wire_true : AllByRecursion (SaysIn x.cards.count past k) x.wire
-  pub kept_true : AllByRecursion (SaysIn x.cards.count past k) x.kept
+  pub wire_says : AllByRecursion (SaysIn x.cards.count past k) x.wire
+  pub kept_says : AllByRecursion (SaysIn x.cards.count past k) x.kept
   -- what a running card has sent in a round that the running receiver has not left is under way, kept for that round, or counted
   pub due : (p q r : ℕ) → p < x.cards.count → q < x.cards.count → (q ≢ p) → crashed_in x.cards p ≡ false → crashed_in x.cards q ≡ false
       → 1 ≤ r → r ≤ x.cards.count → r ≤ past.round p → past.round q ≤ r
