@@ -104,9 +104,7 @@ UNTOLD = {
     ],
     "a card counts itself where it relays, so it has counted itself of every note that it can be handed": ["allack/new_counts_not_empty"],
     "an item of a past round comes from a card that its receiver suspects": ["flooding/item_of_a_past_round_counted"],
-    "what is kept of a suspected card is dropped when its round comes": ["flooding/new_item_of_a_suspected_card_kept"],
     "a card enters a round once, so what is kept for a past round does nothing": ["flooding/taken_items_stay_kept"],
-    "no card is more than one round ahead of a running card, so nothing is kept for a later round than the one entered": ["flooding/items_of_later_rounds_let_go"],
     "a second decision is the first again, as what is known has not changed": ["flooding/decides_twice"],
     "a card stands in one undecided instance at a time": ["flooding/instances_descending"],
 }
@@ -1241,7 +1239,7 @@ def _(right):
 # Flooding.
 
 
-@reading("flooding: an item of a suspected card is counted", r.Flood, "receive", "flooding/item_of_a_suspected_card_counted", "flooding/new_item_of_a_suspected_card_counted")
+@reading("flooding: an item of a suspected card is counted", r.Flood, "receive", "flooding/new_item_of_a_suspected_card_counted")
 def _(right):
     def receive(self, sender, to, load):
         doubted, self.doubts = self.doubts, self.doubts - {(to, sender)}
@@ -1339,7 +1337,7 @@ def _(right):
     return receive
 
 
-@reading("flooding: a card moves only once", r.Flood, "may_move_again", "flooding/moves_only_once", "flooding/settle_stops_after_a_move")
+@reading("flooding: a card moves only once", r.Flood, "may_move_again", "flooding/moves_only_once")
 def _(right):
     return lambda self: False
 
