@@ -1,0 +1,39 @@
+// Calls every function that can answer that memory is wanting, on arguments of the sizes that standard input says. It ends in an error where one
+// answers so: with memory none may, and where an allocation fails, the call that asked for it has to.
+#![tactic(auto)]
+
+mod files;
+mod parts;
+mod runs;
+mod size;
+
+use files::try_files;
+use parts::try_parts;
+use runs::try_runs;
+use size::Size;
+
+// One line of standard input: so many cards, notes and events. A file has one card at least.
+fn try_line(rt: &HostRuntime, line: &str) -> anyhow::Result<()> {
+    let size = Size::of(line)?;
+    let heap = rt.alloc();
+    try_parts(heap, size)?;
+    let runs = try_runs(heap, size)?;
+    println!(rt; "{line}: {runs} runs")?;
+    if size.cards > 0 {
+        let told = try_files(heap, size)?;
+        println!(rt; "{line}: {told}")?;
+    }
+    Ok(())
+}
+
+fn run(rt: &HostRuntime) -> anyhow::Result<()> {
+    for line in rt.lines(rt.alloc()) {
+        let line = line?;
+        try_line(rt, line.as_str())?;
+    }
+    Ok(())
+}
+
+fn main(rt: HostRuntime) -> anyhow::Result<()> {
+    run(&rt)
+}
