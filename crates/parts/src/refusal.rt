@@ -36,12 +36,16 @@ impl Refusal {
     }
 }
 
-// Each call is turned down by the first reason that holds against it, in the numbers of the rule.
-pub fn first_reason_turns_down()
-    ensures post { (v : BroadcastView) (p m : ℕ) → case_of (post_answer v p m) ≡ turned_down_by (post_reasons v p m) }
+// Each call is turned down by the first reason that holds against it, in the numbers of the rule. The contract is the
+// theorem; there is nothing to do.
+pub(super) fn first_reason_turns_down()
+    ensures post { (v : BroadcastView) (p m : ℕ)
+        → case_of (post_answer v p m) ≡ turned_down_by (post_reasons v p m) }
     ensures carry { (v : Net) (i : ℕ) → case_of (carry_answer v i) ≡ turned_down_by (carry_reasons v i) }
     ensures lose { (v : Net) (i : ℕ) → case_of (lose_answer v i) ≡ turned_down_by (lose_reasons v i) }
     ensures crash { (v : Net) (p : ℕ) → case_of (crash_answer v p) ≡ turned_down_by (crash_reasons v p) }
-    ensures suspect { (v : Net) (q p : ℕ) → case_of (suspect_answer v q p) ≡ turned_down_by (suspect_reasons v q p) }
-    ensures propose { (v : ConsensusView) (k p s : ℕ) → case_of (propose_answer v k p s) ≡ turned_down_by (propose_reasons v k p s) }
+    ensures suspect { (v : Net) (q p : ℕ)
+        → case_of (suspect_answer v q p) ≡ turned_down_by (suspect_reasons v q p) }
+    ensures propose { (v : ConsensusView) (k p s : ℕ)
+        → case_of (propose_answer v k p s) ≡ turned_down_by (propose_reasons v k p s) }
 {}
