@@ -163,6 +163,17 @@ def _(right):
     return lose
 
 
+@reading("a take of nothing decided is refused by 3", r.Carrier, "take", "total_order/take_refused_by_another_number")
+def _(right):
+    def take(self, p):
+        try:
+            right(self, p)
+        except r.Refused as refused:
+            raise r.Refused(3 if refused.number == 10 else refused.number)
+
+    return take
+
+
 @reading("a take is no step", r.Carrier, "take")
 def _(right):
     def take(self, p):
