@@ -92,7 +92,7 @@ UNTOLD = {
         "total_order/new_consensus_of_more_cards",
     ],
     "what settle answers is not printed": [
-        "total_order/advance_that_always_went_on",
+        "total_order/call_of_a_settle_tells_no_steps",
         "total_order/settle_invents_its_count",
         "total_order/settle_reports_rest_at_its_limit",
     ],
@@ -160,6 +160,17 @@ def _(right):
         self.steps -= 1
 
     return lose
+
+
+@reading("a take of nothing decided is refused by 3", r.Carrier, "take", "total_order/take_refused_by_another_number")
+def _(right):
+    def take(self, p):
+        try:
+            right(self, p)
+        except r.Refused as refused:
+            raise r.Refused(3 if refused.number == 10 else refused.number)
+
+    return take
 
 
 @reading("a take is no step", r.Carrier, "take")
@@ -292,7 +303,7 @@ def _(right):
     return first_that
 
 
-@reading("settle makes two steps for one", r.Carrier, "settle", "total_order/settle_made_in_its_first_step")
+@reading("settle makes two steps for one", r.Carrier, "settle", "total_order/settle_makes_two_steps_for_one")
 def _(right):
     return lambda self, limit: right(self, 2 * limit)
 

@@ -12,7 +12,7 @@ use parts::consensus::Consensus;
 impl<B: Broadcast, C: Consensus> Carrier<B, C> {
     // Repeats the first possible of: carry item 0 of the broadcast, carry item 0 of the consensus, take at the lowest card that can, propose at
     // the lowest card that can. It stops when at rest, or when it has made as many steps as the limit says.
-    #[tactic(auto, using(crate::proofs::Settles::settled_further, crate::proofs::Settles::steps_further, crate::proofs::Settles::settled_at_rest, crate::proofs::Settles::steps_at_rest, crate::proofs::Settles::settled_in_full, crate::proofs::Settles::steps_in_full))]
+    #[tactic(auto, using(crate::proofs::Settles::settled_further, crate::proofs::Settles::steps_further, crate::proofs::Settles::settled_at_rest, crate::proofs::Settles::steps_at_rest, crate::proofs::Settles::settled_in_full, crate::proofs::Settles::steps_in_full), unfolding(crate::specs::Carrying::settled))]
     pub fn settle(&mut self, limit: usize) -> Settling
         ensures steps { result.steps ≡ settle_steps B.Broadcast C.Consensus limit (model B.Broadcast C.Consensus self.old) }
         ensures rest { result.at_rest ≡ at_rest B.Broadcast C.Consensus (settled B.Broadcast C.Consensus limit (model B.Broadcast C.Consensus self.old)) }
