@@ -20,7 +20,7 @@ impl<B: Broadcast, C: Consensus> Carrier<B, C> {
             ≡ settle_case B.Broadcast C.Consensus (model B.Broadcast C.Consensus self.old) limit }
         ensures after { model B.Broadcast C.Consensus self.new ≡ settled B.Broadcast C.Consensus limit (model B.Broadcast C.Consensus self.old) }
 
-        // So many steps are made and counted, each from a carrier not at rest.
+        // So many steps are made, each from a carrier not at rest; and counted, where the count does not come to its end.
         ensures within { result.steps ≤ limit }
         ensures made { model B.Broadcast C.Consensus self.new ≡ after_steps B.Broadcast C.Consensus
             result.steps (model B.Broadcast C.Consensus self.old) }
