@@ -1,0 +1,21 @@
+use Rattle.std.proofs.Common.{[], ◌++◌, string_bytes, ap, ◌∙◌}
+use Rattle.handed_and_decided.specs.Lines.{decided_line, decided_line_of}
+use Rattle.handed_and_decided.proofs.Texts.{none_yet, one_more}
+use Rattle.handed_and_decided.proofs.report.decided.Goals as goal
+
+pub loop-card-init : goal.loop-card-init
+loop-card-init g c =
+    let b = g.C.Consensus in
+    let s = b.state c.args.consensus.now in
+    c.new-out.ensures.bytes ∙ none_yet [] (decided_line_of b s c.args.instance)
+
+pub loop-card-preserved : goal.loop-card-preserved
+loop-card-preserved g c =
+    let b = g.C.Consensus in
+    let s = b.state c.args.consensus.now in
+    let k = c.loop-card.card in
+    let was = string_bytes c.loop-card.out in
+    one_more [] was (string_bytes c.write_decided.new.out) (decided_line_of b s c.args.instance) k c.loop-card.invariant
+    (c.in_ok-write_decided.ensures
+    ∙ ap (λ x. was ++ decided_line k x c.decision_of.result) c.has_crashed-crashed.ensures
+    ∙ ap (λ x. was ++ decided_line k (b.crashed s k) x) c.decision_of.ensures)
