@@ -1,8 +1,8 @@
 -- Where a line that is refused was due.
-use Rattle.std.proofs.Common.{◌≡◌, ℕ, ◌-◌, ◌<◌, ◌≤◌, true, false, eqb, List, [], ◌∷◌, ◌++◌, length, Ok, Err, Result, sym, refl, ap, ◌∙◌, subst, arith, length-append}
+use Rattle.std.proofs.Common.{◌≡◌, ℕ, ◌≤◌, List, [], ◌∷◌, ◌++◌, length, Ok, sym, ap, ◌∙◌, subst, arith, length-append}
 use Rattle.std.proofs.lemmas.Bool.{cond-false, ne_eqb}
 use Rattle.text.specs.declared.fault.LineFault.{LineFault}
-use Rattle.text.specs.declared.fault.LineFault.TheVariants.{Absent, Wrong}
+use Rattle.text.specs.declared.fault.LineFault.TheVariants.{Wrong}
 use Rattle.text.specs.Faults.{DueIn}
 use Rattle.text.specs.Parts.{Span, place_of, fault_at, line_of}
 use Rattle.text.proofs.LineLaws.{line_only}

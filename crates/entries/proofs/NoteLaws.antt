@@ -5,7 +5,7 @@ use Rattle.std.proofs.lemmas.Bool.{cases_Bool, cond-true, cond-false}
 use Rattle.labels.specs.Order.{all_printable, is_label}
 use Rattle.notes.specs.declared.wear.Wear.{Wear}
 use Rattle.text.specs.Parts.{Span, place_of}
-use Rattle.text.specs.Fields.{Cut, word, label, read_field, read_uncut, number_in, label_in}
+use Rattle.text.specs.Fields.{Cut, word, label, read_field, number_in, label_in}
 use Rattle.text.specs.Written.{Free, field_bytes}
 use Rattle.text.proofs.FieldLaws.{placed}
 use Rattle.entries.specs.Chains.{bind}

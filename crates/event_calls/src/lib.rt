@@ -1,9 +1,6 @@
 // The events of a schedule as calls on a carrier.
 #![tactic(auto)]
 
-#[cfg(test)]
-mod tests;
-
 ghost use Rattle.std.specs.Prelude.{◌≡◌, map, IfOk};
 ghost use Rattle.event_calls.specs.Calls.{call_of};
 

@@ -2,7 +2,7 @@
 use Rattle.std.specs.Prelude.{◌≡◌, ℕ, ◌<◌, ◌≤◌, ◌⊎◌, ◌↔◌, List, [], ◌∷◌, ◌++◌, length, take, Some, None, Ok, Err, Option, Result, MatchOption, ◌≢◌, slice_index_or}
 use Rattle.std.specs.List.{AllByRecursion}
 use Rattle.text.specs.declared.fault.LineFault.{LineFault}
-use Rattle.text.specs.Faults.{LineCase, fault_place, StartsIn}
+use Rattle.text.specs.Faults.{fault_place, StartsIn}
 use Rattle.text.specs.Parts.{Span, whole_of, fault_at}
 use Rattle.schedule.specs.declared.contents.Contents.{Contents}
 use Rattle.entries.specs.declared.event.Event.{Event}
@@ -129,7 +129,9 @@ pub record CaseOf (file : List ℕ) (c : Case) : Type 0 where
   pub together : Together c.cause c.place c.layer
   pub long : (c.cause ≡ 11) ↔ (65536 < length file)
   pub within : c.cause ≢ 11 → c.place ≤ length file
-  pub line : MatchOption c.line ((c.cause ≡ 11) ⊎ (c.cause ≡ 14)) (λ l. (l.place ≡ c.place) × StartsIn (whole_of file) l)
+  pub line : MatchOption c.line
+      ((c.cause ≡ 11) ⊎ (c.cause ≡ 14))
+      (λ l. (l.place ≡ c.place) × StartsIn (whole_of file) l)
   pub surplus : c.cause ≡ 14 → c.place < length file
 
 -- A file that is read has up to 65,536 bytes.

@@ -30,7 +30,11 @@ pub(crate) fn extreme(
     note_count: usize,
     event_count: usize,
 ) -> Result<String, AllocError> {
-    let note = if kind == "label" { "12345678\n" } else { "4294967295 4294967295\n" };
+    let note = if kind == "label" {
+        "12345678\n"
+    } else {
+        "4294967295 4294967295\n"
+    };
     let notes = note.repeat(heap, note_count)?;
     let events = "s 65535 65535\n".repeat(heap, event_count)?;
     format!(in heap;

@@ -9,8 +9,7 @@ use files::{BASE, extreme, longest, padded, spoiled};
 use reader::file::{Notes, Schedule, Unread};
 use reader::read::read;
 use std::alloc::{AllocError, Global};
-use std::fmt;
-use std::io;
+use std::{fmt, io};
 use table::unescaped;
 use text::fault::LineFault;
 

@@ -1,11 +1,11 @@
 -- A label is read where its bytes are those of one.
-use Rattle.std.proofs.Common.{◌≡◌, ℕ, ◌-◌, ◌≤◌, Bool, true, false, cond, List, [], ◌∷◌, length, Some, None, Option, sym, refl, ap, ◌∙◌, subst, arith, ◌⊎◌, ⊎_elim}
+use Rattle.std.proofs.Common.{◌≡◌, ℕ, ◌≤◌, true, cond, List, [], ◌∷◌, Some, None, Option, sym, refl, ap, ◌∙◌, subst, arith, ⊎_elim}
 use Rattle.std.proofs.lemmas.Bool.Decides.{nat_tests}
 use Rattle.std.proofs.lemmas.Bool.{cases_Bool, cond-true, cond-false}
 use Rattle.std.specs.List.{AllByRecursion}
 use Rattle.labels.specs.Order.{all_printable, is_label}
 use Rattle.text.specs.Parts.{Span, place_of}
-use Rattle.text.specs.Fields.{Cut, word, label, LabelBytes, UncutSays}
+use Rattle.text.specs.Fields.{word, label, LabelBytes, UncutSays}
 
 abbrev Printed : List ℕ → Type 0
 Printed bs = AllByRecursion (λ b. (32 ≤ b) × (b ≤ 126)) bs
