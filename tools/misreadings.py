@@ -523,7 +523,6 @@ def _(right):
     "a carry is of item 0, whatever its number",
     r.Part,
     "carry",
-    "allack/carries_the_first",
     "relay/carries_the_first",
     "total_order/carry_of_another_item",
 )
@@ -625,7 +624,6 @@ def _(right):
     "the suspected card is named first",
     r.Broadcast,
     "suspect",
-    "allack/suspicion_backwards",
     "board/suspects_backwards",
     "inturn/suspect_the_other_way_round",
     "relay/suspicion_backwards",
@@ -715,7 +713,7 @@ def _(right):
     return init
 
 
-@reading("a post is of the note with the card's number", r.Broadcast, "post", "allack/posts_the_card_number", "relay/posts_the_card_number")
+@reading("a post is of the note with the card's number", r.Broadcast, "post", "relay/posts_the_card_number")
 def _(right):
     return lambda self, p, m: right(self, p, p)
 
@@ -747,6 +745,11 @@ def _(right):
         self.proposed(k, p)
 
     return propose
+
+
+@reading("the set of note 0 alone cannot be proposed", r.Consensus, "propose", "tables/set_of_note_0_not_proposed")
+def _(right):
+    return lambda self, k, p, notes: right(self, k, p, notes if set(notes) != {0} else set())
 
 
 @reading(
@@ -806,6 +809,11 @@ def _(right):
     return init
 
 
+@reading("what is refused by 1 is refused by 2, and the other way round", r.Refused, "__init__", "parts/first_two_refusals_change_numbers")
+def _(right):
+    return lambda self, number: right(self, {1: 2, 2: 1}.get(number, number))
+
+
 @reading("what is refused by 10 is refused by 9", r.Refused, "__init__", "parts/nothing_decided_is_nothing_proposed")
 def _(right):
     return lambda self, number: right(self, min(number, 9))
@@ -849,7 +857,7 @@ def _(right):
     return lambda self, p, m: None
 
 
-@reading("relay: a card relays what the card of the note's number has not relayed of its own", r.Relay, "receive", "spread/relayed_note_forgotten")
+@reading("relay: a card relays what the card of the note's number has not relayed of its own", r.Relay, "receive")
 def _(right):
     def receive(self, sender, to, m):
         if len(self.wire) < 200 and not (m < 6 and to in self.sets[m]):
