@@ -8,8 +8,9 @@ use Rattle.histories.proofs.Puts.{any_decides}
 
 pub heard_knew : (n : ℕ) (f : Fates) (h : Past) → History n f h → (p r x : ℕ) → Left n h p r → heard_of n h p r x ≡ h.knew p (suc r) x
 heard_knew n f h g p r x l =
-    same_from_decides (heard_of n h p r x) (h.knew p (suc r) x) (any_decides (λ y. h.counted p r y && h.knew y r x) n)
-    (λ e. let m = g.known_was_heard p r x l e in (m.from, m.card, and_from _ _ m.counted m.knew),
-    λ w.
-    let c = and_parts (h.counted p r w.0) (h.knew w.0 r x) w.2 in
-    g.heard_is_known p r x l (record { from = w.0; card = w.1; counted = c.0; there = (g.counted_met p r w.0 c.0).there; knew = c.1 }))
+    same_from_decides (heard_of n h p r x) (h.knew p (suc r) x) (any_decides (λ y. h.counted p r y && h.knew y r x) n) (
+      λ e. let m = g.known_was_heard p r x l e in (m.from, m.card, and_from _ _ m.counted m.knew),
+      λ w.
+          let c = and_parts (h.counted p r w.0) (h.knew w.0 r x) w.2 in
+          g.heard_is_known p r x l (record { from = w.0; card = w.1; counted = c.0; there = (g.counted_met p r w.0 c.0).there; knew = c.1 }),
+    )
