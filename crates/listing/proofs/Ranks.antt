@@ -1,5 +1,5 @@
--- Notes rank as what they stand for; and the words of a fault.
-use Rattle.std.proofs.Common.{◌≡◌, ◌++◌, codes, length, ap, append-nil, ℕ, Bool, cond, eqb, leb, List, [], ◌∷◌, map, Some, None, Option, refl, ◌∙◌, ap₂}
+-- Notes rank as what they stand for.
+use Rattle.std.proofs.Common.{◌≡◌, length, ap, ℕ, Bool, cond, eqb, leb, List, [], map, Some, None, Option, refl, ◌∙◌, ap₂}
 use mathlib.Core.Path.{fun_ext}
 use lib.ListN.{length-map}
 use Rattle.std.specs.List.{slice_get, range_with_len}
@@ -11,10 +11,7 @@ use Rattle.logs.specs.Orders.{lowest_that, number_in, in_ranking_order}
 use Rattle.labels.specs.declared.Label.{Label}
 use Rattle.labels.specs.Order.{label_of}
 use Rattle.notes.specs.contracts.label.LabelKind.TheImpl.{ghosts as label_kind}
-use Rattle.faults.specs.declared.FileFault.{FileFault}
-use Rattle.faults.specs.Faults.{fault_text}
-use Rattle.run_report.specs.Lines.{lines_text}
-use Rattle.report.specs.Reports.{bytes_before}
+use Rattle.listing.specs.Listing.{bytes_before}
 
 -- By what f makes of the notes.
 module _ {A B : Type 0} (before : B → B → Bool) (f : A → B) where
@@ -38,11 +35,5 @@ module _ {A B : Type 0} (before : B → B → Bool) (f : A → B) where
   ranked_mapped xs = ap₂ (λ places n. cond (leb n 32) (map (λ k. number_in (lowest_that (λ m. eqb (places m) k) n)) (range_with_len 0 n)) []) (place_mapped xs) (length-map xs f)
 
 -- Labels rank by what they stand for: their bytes.
-pub as_many_labels : (labels : List Label) → length (map label_of labels) ≡ length labels
-as_many_labels labels = length-map labels label_of
-
 pub labels_rank_by_bytes : (labels : List Label) → in_ranking_order bytes_before (map label_of labels) ≡ in_ranking_order label_kind.precedes labels
 labels_rank_by_bytes labels = ranked_mapped bytes_before label_of labels
-
-pub fault_words : (f : FileFault) → lines_text ((codes "bad" ∷ fault_text f ∷ []) ∷ []) ≡ codes "bad " ++ (fault_text f ++ codes "\n")
-fault_words f = ap (λ z. codes "bad " ++ (z ++ codes "\n")) (append-nil (fault_text f))
