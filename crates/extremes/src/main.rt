@@ -3,14 +3,14 @@
 #![tactic(auto)]
 
 mod files;
-mod parts;
-mod runs;
+mod fresh;
 mod size;
+mod stacks;
 
 use files::try_files;
-use parts::try_parts;
-use runs::try_runs;
+use fresh::try_parts;
 use size::Size;
+use stacks::try_runs;
 
 // One line of standard input: so many cards, notes and events. A file has one card at least.
 fn try_line(rt: &HostRuntime, line: &str) -> anyhow::Result<()> {
