@@ -1,6 +1,6 @@
 // The lines of the cards.
 ghost use Rattle.std.specs.Prelude.{◌≡◌, ◌++◌, cond, codes, string_bytes, IfOk, OnOk};
-ghost use Rattle.handed_and_decided.specs.Lines.{note_text, notes_text, card_text, handed_line, decided_line, handed_lines, decided_lines};
+ghost use Rattle.handed_and_decided.specs.Lines.{note_text, notes_text, card_text, handed_line, decided_line, handed_line_of, handed_lines, decided_line_of, decided_lines};
 
 use notes::set::NoteSet;
 use parts::broadcast::Broadcast;
@@ -14,8 +14,7 @@ pub fn handed<B: Broadcast>(heap: Global, broadcast: &B) -> Result<String, Alloc
 {
     let mut out = String::new(heap);
     for card in 0..broadcast.card_count() {
-        let crashed = broadcast.has_crashed(card);
-        write_handed(&mut out, card, crashed, broadcast.handed_to(card))?;
+        write_handed_of(&mut out, broadcast, card)?;
     }
     Ok(out)
 }
@@ -31,15 +30,34 @@ pub fn decided<C: Consensus>(
 {
     let mut out = String::new(heap);
     for card in 0..consensus.card_count() {
-        let crashed = consensus.has_crashed(card);
-        write_decided(
-            &mut out,
-            card,
-            crashed,
-            consensus.decision_of(instance, card),
-        )?;
+        write_decided_of(&mut out, consensus, instance, card)?;
     }
     Ok(out)
+}
+
+fn write_handed_of<B: Broadcast>(
+    out: &mut String,
+    broadcast: &B,
+    card: usize,
+) -> Result<(), AllocError>
+    ensures { OnOk result (string_bytes out.new
+        ≡ string_bytes out.old ++ handed_line_of B.Broadcast (B.Broadcast.state broadcast.now) card) }
+{
+    let crashed = broadcast.has_crashed(card);
+    write_handed(out, card, crashed, broadcast.handed_to(card))
+}
+
+fn write_decided_of<C: Consensus>(
+    out: &mut String,
+    consensus: &C,
+    instance: usize,
+    card: usize,
+) -> Result<(), AllocError>
+    ensures { OnOk result (string_bytes out.new
+        ≡ string_bytes out.old ++ decided_line_of C.Consensus (C.Consensus.state consensus.now) instance card) }
+{
+    let crashed = consensus.has_crashed(card);
+    write_decided(out, card, crashed, consensus.decision_of(instance, card))
 }
 
 #[tactic(auto, using(crate::proofs::Texts::in_line))]

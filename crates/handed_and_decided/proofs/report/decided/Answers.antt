@@ -1,5 +1,5 @@
-use Rattle.std.proofs.Common.{[], ◌++◌, string_bytes, ap, ◌∙◌}
-use Rattle.handed_and_decided.specs.Lines.{decided_line, decided_line_of}
+use Rattle.std.proofs.Common.{[], string_bytes, ◌∙◌}
+use Rattle.handed_and_decided.specs.Lines.{decided_line_of}
 use Rattle.handed_and_decided.proofs.Texts.{none_yet, one_more}
 use Rattle.handed_and_decided.proofs.report.decided.Goals as goal
 
@@ -13,9 +13,4 @@ pub loop-card-preserved : goal.loop-card-preserved
 loop-card-preserved g c =
     let b = g.C.Consensus in
     let s = b.state c.args.consensus.now in
-    let k = c.loop-card.card in
-    let was = string_bytes c.loop-card.out in
-    one_more [] was (string_bytes c.write_decided.new.out) (decided_line_of b s c.args.instance) k c.loop-card.invariant
-    (c.in_ok-write_decided.ensures
-    ∙ ap (λ x. was ++ decided_line k x c.decision_of.result) c.has_crashed-crashed.ensures
-    ∙ ap (λ x. was ++ decided_line k (b.crashed s k) x) c.decision_of.ensures)
+    one_more [] (string_bytes c.loop-card.out) (string_bytes c.write_decided_of.new.out) (decided_line_of b s c.args.instance) c.loop-card.card c.loop-card.invariant c.in_ok-write_decided_of.ensures
