@@ -1,5 +1,5 @@
 -- Notes rank as what they stand for.
-use Rattle.std.proofs.Common.{◌≡◌, length, ap, ℕ, Bool, cond, eqb, leb, List, [], map, Some, None, Option, refl, ◌∙◌, ap₂}
+use Rattle.std.proofs.Common.{◌≡◌, ℕ, Bool, cond, eqb, leb, List, [], map, Some, None, Option, refl, ◌∙◌, ap₂}
 use mathlib.Core.Path.{fun_ext}
 use lib.ListN.{length-map}
 use Rattle.std.specs.List.{slice_get, range_with_len}

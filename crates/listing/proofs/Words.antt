@@ -1,5 +1,5 @@
 -- The words of the lines.
-use Rattle.std.proofs.Common.{◌≡◌, ℕ, List, [], ◌∷◌, ◌++◌, codes, map, refl, ap, ap₂, ◌∙◌, append-nil}
+use Rattle.std.proofs.Common.{◌≡◌, ℕ, List, [], ◌∷◌, ◌++◌, codes, map, refl, ap, append-nil}
 use Rattle.labels.specs.declared.Label.{Label}
 use Rattle.labels.specs.Order.{label_of}
 use Rattle.text.specs.Written.{spaced}

@@ -40,7 +40,8 @@ fn listing_text(heap: Global, file: &[u8]) -> Result<String, AllocError>
 // What is printed of a file that does not read: the cause, the place and the layer of its fault.
 #[tactic(auto, using(crate::proofs::Words::fault_words))]
 pub fn bad_line(heap: Global, fault: FileFault) -> Result<String, AllocError>
-    ensures { IfOk result (λ out. string_bytes out ≡ written_lines spaced (fault_line fault ∷ [])) }
+    ensures { IfOk result (λ out. string_bytes out
+        ≡ written_lines spaced (fault_line fault ∷ [])) }
 {
     format!(in heap; "bad {fault}\n")
 }
@@ -48,7 +49,9 @@ pub fn bad_line(heap: Global, fault: FileFault) -> Result<String, AllocError>
 // Each arm has notes of another type.
 #[tactic(auto, using(crate::proofs::Ranks::labels_rank_by_bytes, crate::proofs::Words::label_texts))]
 fn list_notes(heap: Global, notes: Notes<'_>) -> Result<String, AllocError>
-    ensures { IfOk result (λ out. string_bytes out ≡ written_lines spaced (note_lines (note_texts (noted_in notes.entry)) 0 (ranked_notes (noted_in notes.entry)))) }
+    ensures { IfOk result (λ out. string_bytes out
+        ≡ written_lines spaced (note_lines (note_texts (noted_in notes.entry)) 0
+        (ranked_notes (noted_in notes.entry)))) }
 {
     let mut out = String::new(heap);
     match notes {

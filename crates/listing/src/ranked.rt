@@ -16,7 +16,8 @@ use std::alloc::AllocError;
 #[tactic(auto, using(crate::proofs::Whole::all_taken, crate::proofs::Whole::all_below))]
 fn ranked<N: Kind>(notes: &[N]) -> Log
     ensures order { result ≡ in_ranking_order N.Kind.precedes notes.now }
-    ensures below { (k : ℕ) → k < length result → slice_index result k < length notes.now }
+    ensures below { (k : ℕ) → k < length result
+        → slice_index result k < length notes.now }
 {
     let mut log = Log::new();
     log.append(&Ranking::new(notes), NoteSet::from_bits(u32::MAX));
@@ -24,7 +25,9 @@ fn ranked<N: Kind>(notes: &[N]) -> Log
 }
 
 pub(crate) fn write_ranked<N: Written>(out: &mut String, notes: &[N]) -> Result<(), AllocError>
-    ensures { OnOk result (string_bytes out.new ≡ string_bytes out.old ++ written_lines spaced (note_lines (map N.Written.text notes.now) 0 (in_ranking_order N.Kind.precedes notes.now))) }
+    ensures { OnOk result (string_bytes out.new ≡ string_bytes out.old
+        ++ written_lines spaced (note_lines (map N.Written.text notes.now) 0
+        (in_ranking_order N.Kind.precedes notes.now))) }
 {
     let order = ranked(notes);
     for (place, number) in order.as_slice().iter().enumerate() {
@@ -41,7 +44,8 @@ fn write_line<N: Written>(
     number: usize,
 ) -> Result<(), AllocError>
     requires { number < length notes.now }
-    ensures { OnOk result (string_bytes out.new ≡ string_bytes out.old ++ written_lines spaced (note_line (map N.Written.text notes.now) place number ∷ [])) }
+    ensures { OnOk result (string_bytes out.new ≡ string_bytes out.old
+        ++ written_lines spaced (note_line (map N.Written.text notes.now) place number ∷ [])) }
 {
     write!(out, "{place} {number} ")?;
     notes[number].write(out)?;

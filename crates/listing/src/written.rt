@@ -13,7 +13,8 @@ pub(crate) trait Written: Kind {
     ghost text: { Self → List ℕ };
 
     fn write(&self, out: &mut String) -> Result<(), AllocError>
-        ensures { OnOk result (string_bytes out.new ≡ string_bytes out.old ++ text self.now) };
+        ensures { OnOk result
+            (string_bytes out.new ≡ string_bytes out.old ++ text self.now) };
 }
 
 impl Written for Wear {

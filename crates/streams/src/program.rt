@@ -19,8 +19,10 @@ pub fn answer_input<P: Answers, R: Read, W: Write>(
     reader: &mut R,
     writer: &mut W,
 ) -> Result<(), Failure>
-    ensures ends { Ends P.Answers.answer_to (R.remaining reader.old) (R.remaining reader.new) (W.contents writer.old) (W.contents writer.new) result }
-    ensures whole { OnOk result (IfSome (R.remaining reader.old) (λ input. Appends (W.contents writer.old) (W.contents writer.new) (P.Answers.answer_to input))) }
+    ensures ends { Ends P.Answers.answer_to (R.remaining reader.old) (R.remaining reader.new)
+        (W.contents writer.old) (W.contents writer.new) result }
+    ensures whole { OnOk result (IfSome (R.remaining reader.old) (λ input.
+        Appends (W.contents writer.old) (W.contents writer.new) (P.Answers.answer_to input))) }
 {
     let input = read_up_to(heap, reader, MOST)?;
     let answer = P::answer(heap, input.as_slice())?;

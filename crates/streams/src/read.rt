@@ -14,8 +14,10 @@ pub(crate) fn read_up_to<R: Read>(
     reader: &mut R,
     most: usize,
 ) -> Result<Vec<u8>, Failure>
-    ensures read { IfOk result (λ input. Reads most (R.remaining reader.old) (R.remaining reader.new) input.items) }
-    ensures failed { IfErr result (BreaksOffReading most (R.remaining reader.old) (R.remaining reader.new)) }
+    ensures read { IfOk result (λ input.
+        Reads most (R.remaining reader.old) (R.remaining reader.new) input.items) }
+    ensures failed { IfErr result
+        (BreaksOffReading most (R.remaining reader.old) (R.remaining reader.new)) }
 {
     let mut input = vec![in heap; 0; most]?;
     match fill(reader, input.as_mut_slice()) {
@@ -31,8 +33,10 @@ pub(crate) fn read_up_to<R: Read>(
 // are counted, so that the loop ends whatever the reader does.
 fn fill<R: Read>(reader: &mut R, buffer: &mut [u8]) -> io::Result<usize>
     ensures room { length buffer.new ≡ length buffer.old }
-    ensures read { IfOk result (λ n. (n ≤ length buffer.new) × Reads (length buffer.new) (R.remaining reader.old) (R.remaining reader.new) (take n buffer.new)) }
-    ensures failed { OnErr result (ReadsAtMost (length buffer.new) (R.remaining reader.old) (R.remaining reader.new)) }
+    ensures read { IfOk result (λ n. (n ≤ length buffer.new)
+        × Reads (length buffer.new) (R.remaining reader.old) (R.remaining reader.new) (take n buffer.new)) }
+    ensures failed { OnErr result
+        (ReadsAtMost (length buffer.new) (R.remaining reader.old) (R.remaining reader.new)) }
 {
     let mut filled = 0;
     'reads: for _ in 0..u64::MAX {
@@ -58,7 +62,8 @@ fn read_behind<R: Read>(reader: &mut R, buffer: &mut [u8], filled: usize) -> io:
     ensures room { length buffer.new ≡ length buffer.old }
     ensures front { take filled buffer.new ≡ take filled buffer.old }
     ensures fits { IfOk result (λ n. filled + n ≤ length buffer.new) }
-    ensures read { IfOk result (λ n. Consumes (R.remaining reader.old) (R.remaining reader.new) (take n (drop filled buffer.new))) }
+    ensures read { IfOk result (λ n.
+        Consumes (R.remaining reader.old) (R.remaining reader.new) (take n (drop filled buffer.new))) }
     ensures end { IfOk result (λ n. n ≡ 0 → IsAtEnd (R.remaining reader.new)) }
     ensures failed { OnErr result (Keeps (R.remaining reader.old) (R.remaining reader.new)) }
 {

@@ -8,8 +8,10 @@ use std::io::{ErrorKind, Write};
 
 #[tactic(auto, using(crate::proofs::Pieces::some_of_whole))]
 pub(crate) fn write_answer<W: Write>(writer: &mut W, answer: &[u8]) -> io::Result<()>
-    ensures whole { OnOk result (Appends (W.contents writer.old) (W.contents writer.new) answer.now) }
-    ensures some { OnErr result (WritesSome (W.contents writer.old) (W.contents writer.new) answer.now) }
+    ensures whole { OnOk result
+        (Appends (W.contents writer.old) (W.contents writer.new) answer.now) }
+    ensures some { OnErr result
+        (WritesSome (W.contents writer.old) (W.contents writer.new) answer.now) }
 {
     send(writer, answer)?;
     writer.flush()
@@ -17,8 +19,10 @@ pub(crate) fn write_answer<W: Write>(writer: &mut W, answer: &[u8]) -> io::Resul
 
 // A write that was interrupted is tried again. The turns are counted as in reading.
 fn send<W: Write>(writer: &mut W, bytes: &[u8]) -> io::Result<()>
-    ensures whole { OnOk result (Appends (W.contents writer.old) (W.contents writer.new) bytes.now) }
-    ensures some { OnErr result (WritesSome (W.contents writer.old) (W.contents writer.new) bytes.now) }
+    ensures whole { OnOk result
+        (Appends (W.contents writer.old) (W.contents writer.new) bytes.now) }
+    ensures some { OnErr result
+        (WritesSome (W.contents writer.old) (W.contents writer.new) bytes.now) }
 {
     let mut sent = 0;
     'writes: for _ in 0..u64::MAX {
