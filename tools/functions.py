@@ -49,8 +49,11 @@ class Function:
         at = past(text, text.index("(", match.end()))
         self.clauses = []
         while True:
-            found = re.compile(r"\b(ensures|requires|ghost)\b|[{;]").search(text, at)
+            found = re.compile(r"//[^\n]*|\b(ensures|requires|ghost)\b|[{;]").search(text, at)
             word = found.group()
+            if word.startswith("//"):
+                at = found.end()
+                continue
             if word == ";":
                 self.body, self.end = "", found.end()
                 return
@@ -97,13 +100,21 @@ def functions(crate):
 
 
 def edits(crate):
-    """The edits of a crate: the name, the file, the place that it changes, and the text that stood there."""
+    """The edits of a crate's code, a change at a time: the name, the file, the place that it changes, and the text that stood there. Of an edit that
+    changes definitions too, only the changes of the code are told."""
     where = os.path.join(TOP, "crates", crate, "must-fail")
     for name in sorted(os.listdir(where)) if os.path.isdir(where) else []:
+        path = ""
         with open(os.path.join(where, name)) as lines:
-            told = dict(line.rstrip("\n").split(": ", 1) for line in lines if ": " in line)
-        with open(os.path.join(TOP, "crates", crate, told["file"])) as source:
-            yield name[: -len(".edit")], told["file"], source.read().index(told["old"]), told["old"]
+            for line in lines:
+                word, _, text = line.rstrip("\n").partition(": ")
+                if word == "file":
+                    path = text
+                elif word == "old" and path.startswith("src/"):
+                    with open(os.path.join(TOP, "crates", crate, path)) as source:
+                        at = source.read().find(text)
+                    if at >= 0:
+                        yield name[: -len(".edit")], path, at, text
 
 
 def calls(function, other):
@@ -131,7 +142,8 @@ def table(crate):
         if not inside and constant:
             inside = [f for f in known if constant.group() in f.body]
         for f in {p for g in inside for p in public_above(g, known, set())} & set(edited):
-            edited[f].append("`%s`" % name)
+            if "`%s`" % name not in edited[f]:
+                edited[f].append("`%s`" % name)
     for f in edited:
         # A method of a trait that is the type's own method of that name has that one's edits.
         own = [g for g in known if f.owner and " as " in f.owner["name"] and g.label() == f.owner["name"].split(" as ")[0] + "::" + f.name]
