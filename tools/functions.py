@@ -84,18 +84,22 @@ def owners(text):
 
 
 def functions(crate):
-    """The functions of a crate; those of tests are left out."""
-    found = []
+    """The functions of a crate; those of tests are left out, and those of a trait that is private to the crate are no public ones."""
+    found, private = [], set()
     for folder, _, files in os.walk(os.path.join(TOP, "crates", crate, "src")):
         for file in sorted(set(files) - {"tests.rt"}):
             path = os.path.join(folder, file)
             with open(path) as source:
                 text = source.read()
+            private |= set(re.findall(r"^(?:pub\(crate\) )?trait (\w+)", text, re.M))
             blocks = list(owners(text))
             for match in re.finditer(r"^[ \t]*(?P<vis>pub |pub\(\w+\) )?fn (?P<name>\w+)", text, re.M):
                 owner = next((b for b in blocks if b["start"] < match.start() < b["end"]), None)
                 if "#[test]" not in text[max(0, match.start() - 10) : match.start()]:
                     found.append(Function(crate, os.path.relpath(path, os.path.join(TOP, "crates", crate)), text, match, owner))
+    for f in found:
+        if f.owner and f.owner["trait"] and f.owner["name"].split(" as ")[-1] in private:
+            f.public = False
     return found
 
 

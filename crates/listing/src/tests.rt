@@ -3,6 +3,7 @@ use crate::program::Listing;
 use std::alloc::Global;
 use std::io;
 use std::io::{ErrorKind, Read, Write};
+use std::test::Fail;
 use streams::failure::Failure;
 use streams::program::answer_input;
 
@@ -90,6 +91,26 @@ fn taking(heap: Global, piece: usize, writes: usize, error: ErrorKind) -> Narrow
         writes,
         error,
     }
+}
+
+// Each failure prints. What the system says of its own stands behind it.
+#[test]
+fn failures_print(rt: HostRuntime) -> Result<(), Fail> {
+    for (failure, words) in [
+        (
+            Failure::Reading(io::Error::from(ErrorKind::TimedOut)),
+            "the input cannot be read: ",
+        ),
+        (Failure::Memory, "no memory for the answer"),
+        (
+            Failure::Writing(io::Error::from(ErrorKind::WriteZero)),
+            "the answer cannot be written: ",
+        ),
+    ] {
+        let text = format!(in rt.alloc(); "{failure}")?;
+        assert!(rt; text.as_str().starts_with(words), "{words}");
+    }
+    Ok(())
 }
 
 #[test]

@@ -1,8 +1,14 @@
 -- What a program does to what a reader has left and to what a writer holds, as far as they are known.
-use Rattle.std.specs.Prelude.{ℕ, ◌<◌, ◌≤◌, List, length, take, Ok, Err, Option, Result}
+use Rattle.std.specs.Prelude.{ℕ, ◌<◌, ◌≤◌, List, length, take, Some, None, Ok, Err, Option, Result, codes}
 use Rattle.std.specs.Io.KnownBytes.{Consumes, Appends, Keeps, IsAtEnd}
 use Rattle.streams.specs.declared.failure.Failure.{Failure}
 use Rattle.streams.specs.declared.failure.Failure.TheVariants.{Reading, Memory, Writing}
+
+-- What is said of a failure, where it is known: of one of the system's, the system has the words.
+abbrev pub failure_text : Failure → Option (List ℕ)
+failure_text (Reading error) = None
+failure_text Memory = Some (codes "no memory for the answer")
+failure_text (Writing error) = None
 
 -- These bytes are read and no others: all that is left, or its first so many.
 pub record Reads (most : ℕ) (left rest : Option (List ℕ)) (bytes : List ℕ) : Type 0 where

@@ -1,5 +1,6 @@
 // Why there is no answer, or no whole one.
 ghost use Rattle.std.specs.Prelude.{◌≡◌};
+ghost use Rattle.streams.specs.Streams.{failure_text};
 ghost use Rattle.streams.specs.declared.failure.Failure.TheVariants.{Memory};
 
 use std::alloc::AllocError;
@@ -14,6 +15,8 @@ pub enum Failure {
 }
 
 impl fmt::Display for Failure {
+    ghost output = { failure_text };
+
     fn fmt<W: fmt::Write>(&self, f: &mut fmt::Formatter<W>) -> fmt::Result {
         match self {
             Failure::Reading(error) => write!(f, "the input cannot be read: {error}"),
