@@ -1,6 +1,7 @@
-// Files of every pile and of both kinds, read and reported.
+// Files of every pile and of both kinds, read, listed and reported.
 use crate::size::Size;
 use anyhow::{bail, ensure};
+use listing::listing;
 use reader::check::check;
 use reader::file::{Schedule, Unread};
 use reader::read::read;
@@ -89,6 +90,11 @@ fn try_kind(heap: Global, size: Size, kind: &str, told: &mut Told) -> anyhow::Re
     for pile in &PILES {
         let file = file_of(heap, size, kind, pile)?;
         try_read(heap, file.as_bytes(), size)?;
+        let listed = listing(heap, file.as_bytes())?;
+        ensure!(
+            listed.is_empty() == (size.notes == 0),
+            "a listing of another size"
+        );
         told.add(&report(heap, file.as_bytes())?);
     }
     Ok(())

@@ -1,5 +1,5 @@
-// Calls every function that can answer that memory is wanting, on arguments of the sizes that standard input says. It ends in an error where one
-// answers so: with memory none may, and where an allocation fails, the call that asked for it has to.
+// Makes parts, runs, readings, listings and reports, of the sizes that standard input says. Each can answer that memory is wanting, and the program ends
+// in an error where one does: with memory none may, and where an allocation fails, the call that asked for it has to.
 #![tactic(auto)]
 
 mod files;

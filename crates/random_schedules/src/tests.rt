@@ -1,5 +1,6 @@
 // Reports that break the order law are told, each by the sentence that it breaks.
 use crate::outcome::read_report;
+use crate::pile::piles;
 use crate::trial::{Trial, evidence_of};
 use entries::event::Event;
 use std::alloc::Global;
@@ -81,4 +82,13 @@ fn unlawful_reports_fail(rt: HostRuntime) -> anyhow::Result<()> {
         assert!(rt; !is_lawful(rt.alloc(), report)?, "{report}");
     }
     Ok(())
+}
+
+// Of the broadcasts relay alone is not uniform.
+#[test]
+fn piles_without_relay_are_uniform(rt: HostRuntime) {
+    for pile in piles() {
+        let words = pile.words;
+        assert_eq!(rt; pile.uniform, !words.contains("relay"), "{words}");
+    }
 }

@@ -72,7 +72,13 @@ fn terms_of(cards: u8, pile: KnownPile) -> Terms
 }
 
 impl Trial {
-    pub(crate) fn of(heap: Global, drawn: &Drawn, pile: KnownPile) -> anyhow::Result<Trial> {
+    pub(crate) fn of(heap: Global, drawn: &Drawn, pile: KnownPile) -> anyhow::Result<Trial>
+        ensures cards { IfOk result (λ trial. trial.terms.cards ≡ drawn.now.cards) }
+        ensures uniform { IfOk result (λ trial. trial.terms.uniform ≡ pile.uniform) }
+        ensures post_bound { IfOk result (λ trial. trial.terms.post_bound ≡ pile.post_bound) }
+        ensures proposal_bound { IfOk result
+            (λ trial. trial.terms.proposal_bound ≡ pile.proposal_bound) }
+    {
         let came = report(heap, drawn.file.as_bytes())?;
         let text = String::from_utf8_lossy(heap, &came)?;
         let outcome = read_report(heap, &text, drawn.events.len())?;
