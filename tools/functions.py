@@ -49,8 +49,11 @@ class Function:
         at = past(text, text.index("(", match.end()))
         self.clauses = []
         while True:
-            found = re.compile(r"\b(ensures|requires|ghost)\b|[{;]").search(text, at)
+            found = re.compile(r"//[^\n]*|\b(ensures|requires|ghost)\b|[{;]").search(text, at)
             word = found.group()
+            if word.startswith("//"):
+                at = found.end()
+                continue
             if word == ";":
                 self.body, self.end = "", found.end()
                 return
@@ -81,30 +84,41 @@ def owners(text):
 
 
 def functions(crate):
-    """The functions of a crate; those of tests are left out."""
-    found = []
+    """The functions of a crate; those of tests are left out, and those of a trait that is private to the crate are no public ones."""
+    found, private = [], set()
     for folder, _, files in os.walk(os.path.join(TOP, "crates", crate, "src")):
-        for file in sorted(files):
+        for file in sorted(set(files) - {"tests.rt"}):
             path = os.path.join(folder, file)
             with open(path) as source:
                 text = source.read()
+            private |= set(re.findall(r"^(?:pub\(crate\) )?trait (\w+)", text, re.M))
             blocks = list(owners(text))
             for match in re.finditer(r"^[ \t]*(?P<vis>pub |pub\(\w+\) )?fn (?P<name>\w+)", text, re.M):
                 owner = next((b for b in blocks if b["start"] < match.start() < b["end"]), None)
                 if "#[test]" not in text[max(0, match.start() - 10) : match.start()]:
                     found.append(Function(crate, os.path.relpath(path, os.path.join(TOP, "crates", crate)), text, match, owner))
+    for f in found:
+        if f.owner and f.owner["trait"] and f.owner["name"].split(" as ")[-1] in private:
+            f.public = False
     return found
 
 
 def edits(crate):
-    """The edits of a crate: the name, the folder, the file, the place that it changes, and the text that stood there."""
-    for folder in ("must-fail", "edits"):
-        where = os.path.join(TOP, "crates", crate, folder)
-        for name in sorted(os.listdir(where)) if os.path.isdir(where) else []:
-            with open(os.path.join(where, name)) as lines:
-                told = dict(line.rstrip("\n").split(": ", 1) for line in lines if ": " in line)
-            with open(os.path.join(TOP, "crates", crate, told["file"])) as source:
-                yield name[: -len(".edit")], folder, told["file"], source.read().index(told["old"]), told["old"]
+    """The edits of a crate's code, a change at a time: the name, the file, the place that it changes, and the text that stood there. Of an edit that
+    changes definitions too, only the changes of the code are told."""
+    where = os.path.join(TOP, "crates", crate, "must-fail")
+    for name in sorted(os.listdir(where)) if os.path.isdir(where) else []:
+        path = ""
+        with open(os.path.join(where, name)) as lines:
+            for line in lines:
+                word, _, text = line.rstrip("\n").partition(": ")
+                if word == "file":
+                    path = text
+                elif word == "old" and path.startswith("src/"):
+                    with open(os.path.join(TOP, "crates", crate, path)) as source:
+                        at = source.read().find(text)
+                    if at >= 0:
+                        yield name[: -len(".edit")], path, at, text
 
 
 def calls(function, other):
@@ -126,13 +140,14 @@ def table(crate):
     known = functions(crate)
     program = os.path.exists(os.path.join(TOP, "crates", crate, "src", "main.rt"))
     edited = {f: [] for f in known if f.public and (f.clauses or not program)}
-    for name, folder, path, at, old in edits(crate):
+    for name, path, at, old in edits(crate):
         inside = [f for f in known if f.path == path and f.start <= at < f.end]
         constant = re.match(r"[A-Z_]+\b", old)
         if not inside and constant:
             inside = [f for f in known if constant.group() in f.body]
         for f in {p for g in inside for p in public_above(g, known, set())} & set(edited):
-            edited[f].append("`%s`" % name if folder == "must-fail" else name)
+            if "`%s`" % name not in edited[f]:
+                edited[f].append("`%s`" % name)
     for f in edited:
         # A method of a trait that is the type's own method of that name has that one's edits.
         own = [g for g in known if f.owner and " as " in f.owner["name"] and g.label() == f.owner["name"].split(" as ")[0] + "::" + f.name]
@@ -153,8 +168,8 @@ def page():
         "# Public functions",
         "",
         "Written by `tools/functions.py`. For each public function: the names of the clauses of its contract (`returns` where a clause has no name), and",
-        "the edits of its code, or of private code that it calls, that the prover refuses. Those in `code` are tried by the gate, the others by",
-        "`tools/edits`. A function of a trait stands here once where it is declared, with its contract, and once for each implementation.",
+        "the edits of its code, or of private code that it calls, that the prover refuses; the gate tries each.",
+        "A function of a trait stands here once where it is declared, with its contract, and once for each implementation.",
         "",
     ]
     missing = []

@@ -6,7 +6,7 @@ Usage: tools/misreadings.py
 A wrong reading is a small change to the second carrier, tools/reference.py. A schedule tells it where the changed carrier's report is not
 the one that stands beside the schedule. Every reading is to be told by at least one schedule.
 
-The edits of the parts and of the carrier, in must-fail and edits of their crates, are wrong readings too: each is to be named once, by the
+The edits of the parts and of the carrier, in must-fail of their crates, are wrong readings too: each is to be named once, by the
 reading that stands for it, or below under a reason why no report can tell it. The exit status is 1 where anything of this is amiss.
 """
 import contextlib
@@ -32,80 +32,79 @@ def reading(words, owner, name, *edits):
 # Why no report tells an edit.
 UNTOLD = {
     "the bound of a part is no step, and is not printed": [
-        "allack/bound-too-small",
-        "board/bound-too-small",
+        "allack/bound_too_small",
+        "board/bound_too_small",
         "flooding/bound_too_small",
         "inturn/bound_of_30",
-        "register/bound-too-small",
-        "relay/bound-too-small",
+        "register/bound_too_small",
+        "relay/bound_too_small",
     ],
     "nobody asks during a run whether a broadcast is quiet or uniform": [
-        "allack/quiet-asks-no-suspicion",
-        "board/quiet-without-suspicions",
-        "cards/quiet-asks-no-suspicion",
+        "allack/quiet_asks_no_suspicion",
+        "board/quiet_without_suspicions",
+        "cards/quiet_asks_no_suspicion",
         "inturn/quiet_without_asking_below",
-        "relay/says-it-is-uniform",
-        "spread/quiet-asks-no-suspicion",
+        "relay/says_it_is_uniform",
+        "spread/quiet_asks_no_suspicion",
         "total_order/quiet_turned_round",
     ],
     "nobody asks during a run who posted a note": [
-        "allack/poster-of-the-first",
-        "board/poster-of-the-first",
+        "allack/poster_of_the_first",
+        "board/poster_of_the_first",
         "inturn/poster_is_sender",
-        "relay/poster-of-the-first",
-        "spread/poster-of-the-first",
-        "tables/poster-is-the-note",
-        "tables/poster-of-another-note",
-        "tables/refused-post-changes-poster",
+        "relay/poster_of_the_first",
+        "spread/poster_of_the_first",
+        "tables/poster_is_the_note",
+        "tables/poster_of_another_note",
+        "tables/refused_post_changes_poster",
     ],
     "nobody asks a part during a run who sent an item": [
-        "allack/sender-of-the-first",
-        "board/sender-of-the-first",
+        "allack/sender_of_the_first",
+        "board/sender_of_the_first",
         "flooding/sender_of_a_kept_item",
         "inturn/sender_is_poster",
-        "register/sender-of-the-first",
-        "relay/sender-of-the-first",
-        "spread/sender-of-the-first",
+        "register/sender_of_the_first",
+        "relay/sender_of_the_first",
+        "spread/sender_of_the_first",
     ],
     "nobody asks a part during a run who suspects whom": [
-        "allack/suspicion-read-backwards",
-        "board/suspicion-backwards",
+        "allack/suspicion_read_backwards",
+        "board/suspicion_backwards",
         "flooding/suspicion_the_other_way_round",
         "inturn/suspects_the_other_way_round",
-        "register/suspicion-backwards",
-        "relay/suspicion-read-backwards",
+        "register/suspicion_backwards",
+        "relay/suspicion_read_backwards",
     ],
     "nobody asks in turn for a single note, or takes the layer off": [
         "inturn/counts_as_handed_below",
         "inturn/into_lower_crashes_a_card",
         "inturn/into_one_layer_posts",
     ],
+    "no note above 31 is ever posted": ["inturn/post_of_a_note_above_31_not_recorded"],
     "nobody asks what a crashed card was handed: it may not propose, and rest looks at running cards": ["inturn/handed_of_crashed_card_emptied"],
-    "nobody asks what a crashed card decided: it may not take, and rest looks at running cards": ["register/decides-at-crashed-card"],
-    "the register does nothing at a suspicion, and the broadcast says whether it is accepted": ["register/suspects-backwards"],
-    "the broadcast says first whether there is such a card": ["flooding/always_six_cards", "register/card-count-fixed"],
-    "the broadcast says first whether there is such a card, and the register does the same for each": ["register/always-six-cards"],
+    "nobody asks what a crashed card decided: it may not take, and rest looks at running cards": ["register/decides_at_crashed_card"],
+    "the register does nothing at a suspicion, and the broadcast says whether it is accepted": ["register/suspects_backwards"],
+    "the broadcast says first whether there is such a card": ["flooding/always_six_cards", "register/card_count_fixed"],
+    "the broadcast says first whether there is such a card, and the register does the same for each": ["register/always_six_cards"],
     "no file has seven cards or 33 notes": [
-        "cards/seven-cards-make-six",
+        "cards/seven_cards_make_six",
         "total_order/new_beyond_six_cards",
         "total_order/new_consensus_of_more_cards",
     ],
     "what settle answers is not printed": [
-        "total_order/advance_that_always_went_on",
+        "total_order/call_of_a_settle_tells_no_steps",
         "total_order/settle_invents_its_count",
         "total_order/settle_reports_rest_at_its_limit",
     ],
     "the broadcast and the consensus know of the same crashes": ["total_order/has_crashed_asks_the_consensus"],
     "room is a question of memory; a wire of relay or all-ack never holds more than 800 items, and one of flooding not nearly as many as it has room for": [
         "flooding/room_too_small",
-        "spread/room-too-small",
-        "wire/no-room-reserved",
+        "spread/room_too_small",
+        "wire/no_room_reserved",
     ],
-    "a card counts itself where it relays, so it has counted itself of every note that it can be handed": ["allack/new-counts-not-empty"],
+    "a card counts itself where it relays, so it has counted itself of every note that it can be handed": ["allack/new_counts_not_empty"],
     "an item of a past round comes from a card that its receiver suspects": ["flooding/item_of_a_past_round_counted"],
-    "what is kept of a suspected card is dropped when its round comes": ["flooding/new_item_of_a_suspected_card_kept"],
     "a card enters a round once, so what is kept for a past round does nothing": ["flooding/taken_items_stay_kept"],
-    "no card is more than one round ahead of a running card, so nothing is kept for a later round than the one entered": ["flooding/items_of_later_rounds_let_go"],
     "a second decision is the first again, as what is known has not changed": ["flooding/decides_twice"],
     "a card stands in one undecided instance at a time": ["flooding/instances_descending"],
 }
@@ -161,6 +160,17 @@ def _(right):
         self.steps -= 1
 
     return lose
+
+
+@reading("a take of nothing decided is refused by 3", r.Carrier, "take", "total_order/take_refused_by_another_number")
+def _(right):
+    def take(self, p):
+        try:
+            right(self, p)
+        except r.Refused as refused:
+            raise r.Refused(3 if refused.number == 10 else refused.number)
+
+    return take
 
 
 @reading("a take is no step", r.Carrier, "take")
@@ -293,7 +303,7 @@ def _(right):
     return first_that
 
 
-@reading("settle makes two steps for one", r.Carrier, "settle", "total_order/settle_made_in_its_first_step")
+@reading("settle makes two steps for one", r.Carrier, "settle", "total_order/settle_makes_two_steps_for_one")
 def _(right):
     return lambda self, limit: right(self, 2 * limit)
 
@@ -352,7 +362,7 @@ def _(right):
 # What the parts share.
 
 
-@reading("an item is sent to its sender too", r.Part, "send", "wire/item-to-the-sender")
+@reading("an item is sent to its sender too", r.Part, "send", "wire/item_to_the_sender")
 def _(right):
     def send(self, sender, load):
         for to in range(self.n):
@@ -362,7 +372,7 @@ def _(right):
     return send
 
 
-@reading("an item is sent to a crashed card", r.Part, "send", "wire/item-to-crashed-card")
+@reading("an item is sent to a crashed card", r.Part, "send", "wire/item_to_crashed_card")
 def _(right):
     def send(self, sender, load):
         for to in range(self.n):
@@ -372,7 +382,7 @@ def _(right):
     return send
 
 
-@reading("destinations descend", r.Part, "send", "wire/descending-destinations")
+@reading("destinations descend", r.Part, "send", "wire/descending_destinations")
 def _(right):
     def send(self, sender, load):
         for to in reversed(range(self.n)):
@@ -382,7 +392,7 @@ def _(right):
     return send
 
 
-@reading("new items join the front of the wire", r.Part, "send", "wire/joins-the-front")
+@reading("new items join the front of the wire", r.Part, "send", "wire/joins_the_front")
 def _(right):
     def send(self, sender, load):
         before, self.wire = self.wire, []
@@ -392,7 +402,7 @@ def _(right):
     return send
 
 
-@reading("a crash drops what the card has sent", r.Part, "crash", "wire/crash-drops-sent-items")
+@reading("a crash drops what the card has sent", r.Part, "crash", "wire/crash_drops_sent_items")
 def _(right):
     def crash(self, p):
         right(self, p)
@@ -405,9 +415,9 @@ def _(right):
     "a crash leaves the items that go to the card",
     r.Part,
     "crash",
-    "wire/crash-lets-go-of-another-cards-items",
-    "board/crash-keeps-items",
-    "spread/crash-keeps-items",
+    "wire/crash_lets_go_of_another_cards_items",
+    "board/crash_keeps_items",
+    "spread/crash_keeps_items",
     "flooding/crash_lets_go_what_is_kept",
 )
 def _(right):
@@ -454,10 +464,10 @@ def _(right):
     "a suspicion is the other way round",
     r.Part,
     "unsuspected",
-    "cards/suspicion-read-backwards",
-    "cards/suspicion-written-backwards",
-    "spread/suspicion-read-backwards",
-    "allack/suspected-cards-counted-on",
+    "cards/suspicion_read_backwards",
+    "cards/suspicion_written_backwards",
+    "spread/suspicion_read_backwards",
+    "allack/suspected_cards_counted_on",
 )
 def _(right):
     return lambda self, q: {c for c in range(self.n) if (c, q) not in self.doubts}
@@ -483,7 +493,7 @@ def _(right):
     return post
 
 
-@reading("an item is lost if its sender runs, and only then", r.Part, "lose", "wire/loses-item-of-running-card")
+@reading("an item is lost if its sender runs, and only then", r.Part, "lose", "wire/loses_item_of_running_card")
 def _(right):
     def lose(self, i):
         if i < len(self.wire) and self.wire[i][0] in self.down:
@@ -495,7 +505,7 @@ def _(right):
     return lose
 
 
-@reading("a loss asks for the sender of item 0", r.Part, "lose", "wire/sender-of-the-first")
+@reading("a loss asks for the sender of item 0", r.Part, "lose", "wire/sender_of_the_first")
 def _(right):
     def lose(self, i):
         if not self.wire:
@@ -511,11 +521,11 @@ def _(right):
     "a loss is of item 0, whatever its number",
     r.Part,
     "lose",
-    "allack/loses-the-first",
-    "board/loses-the-first",
-    "register/loses-the-first",
-    "relay/loses-the-first",
-    "spread/loses-the-first",
+    "allack/loses_the_first",
+    "board/loses_the_first",
+    "register/loses_the_first",
+    "relay/loses_the_first",
+    "spread/loses_the_first",
 )
 def _(right):
     return lambda self, i: right(self, 0)
@@ -525,15 +535,14 @@ def _(right):
     "a carry is of item 0, whatever its number",
     r.Part,
     "carry",
-    "allack/carries-the-first",
-    "relay/carries-the-first",
+    "relay/carries_the_first",
     "total_order/carry_of_another_item",
 )
 def _(right):
     return lambda self, i: right(self, 0)
 
 
-@reading("carry and lose look for an item, and take off item 0", r.Part, "take", "wire/takes-the-first")
+@reading("carry and lose look for an item, and take off item 0", r.Part, "take", "wire/takes_the_first")
 def _(right):
     return lambda self, i: right(self, 0)
 
@@ -543,7 +552,7 @@ def _(right):
     return lambda self, i: right(self, -1 if i == 0 else i)
 
 
-@reading("a crash lets go only what higher cards sent to the card", r.Part, "crash", "wire/lets-too-few-go")
+@reading("a crash lets go only what higher cards sent to the card", r.Part, "crash", "wire/lets_too_few_go")
 def _(right):
     def crash(self, p):
         wire = self.wire
@@ -553,7 +562,7 @@ def _(right):
     return crash
 
 
-@reading("a crash is not written down", r.Part, "crash", "cards/crash-not-written")
+@reading("a crash is not written down", r.Part, "crash", "cards/crash_not_written")
 def _(right):
     def crash(self, p):
         right(self, p)
@@ -562,7 +571,7 @@ def _(right):
     return crash
 
 
-@reading("a running card counts as crashed", r.Part, "__init__", "cards/running-card-has-crashed")
+@reading("a running card counts as crashed", r.Part, "__init__", "cards/running_card_has_crashed")
 def _(right):
     def init(self, n):
         right(self, n)
@@ -571,7 +580,7 @@ def _(right):
     return init
 
 
-@reading("there are six cards whatever their number", r.Part, "need_card", "cards/count-of-cards-does-not-matter")
+@reading("there are six cards whatever their number", r.Part, "need_card", "cards/count_of_cards_does_not_matter")
 def _(right):
     def need_card(self, *cards):
         if any(c >= 6 for c in cards):
@@ -580,7 +589,7 @@ def _(right):
     return need_card
 
 
-@reading("the carrier is one of six cards", r.Carrier, "__init__", "cards/count-of-cards-is-fixed")
+@reading("the carrier is one of six cards", r.Carrier, "__init__", "cards/count_of_cards_is_fixed")
 def _(right):
     return lambda self, n, *rest: right(self, 6, *rest)
 
@@ -589,11 +598,11 @@ def _(right):
     "the broadcast is one of six cards",
     r.Broadcast,
     "__init__",
-    "allack/always-six-cards",
-    "board/always-six-cards",
+    "allack/always_six_cards",
+    "board/always_six_cards",
     "inturn/new_always_of_six_cards",
-    "relay/always-six-cards",
-    "spread/always-six-cards",
+    "relay/always_six_cards",
+    "spread/always_six_cards",
 )
 def _(right):
     return lambda self, n: right(self, 6)
@@ -603,17 +612,17 @@ def _(right):
     "the broadcast says that it has six cards",
     r.Broadcast,
     "card_count",
-    "allack/card-count-fixed",
-    "board/card-count-fixed",
+    "allack/card_count_fixed",
+    "board/card_count_fixed",
     "inturn/card_count_of_6",
-    "relay/card-count-fixed",
-    "spread/card-count-fixed",
+    "relay/card_count_fixed",
+    "spread/card_count_fixed",
 )
 def _(right):
     return lambda self: 6
 
 
-@reading("a crashed card that suspects a running one is refused by 5", r.Part, "suspect", "cards/suspected-card-checked-first")
+@reading("a crashed card that suspects a running one is refused by 5", r.Part, "suspect", "cards/suspected_card_checked_first")
 def _(right):
     def suspect(self, q, p):
         if max(q, p) < self.n and p not in self.down:
@@ -627,22 +636,21 @@ def _(right):
     "the suspected card is named first",
     r.Broadcast,
     "suspect",
-    "allack/suspicion-backwards",
-    "board/suspects-backwards",
+    "board/suspects_backwards",
     "inturn/suspect_the_other_way_round",
-    "relay/suspicion-backwards",
-    "spread/suspicion-backwards",
+    "relay/suspicion_backwards",
+    "spread/suspicion_backwards",
 )
 def _(right):
     return lambda self, q, p: right(self, p, q)
 
 
-@reading("a crash is of card 0 in the broadcast", r.Broadcast, "crash", "allack/crash-of-another-card", "relay/crash-of-another-card")
+@reading("a crash is of card 0 in the broadcast", r.Broadcast, "crash", "allack/crash_of_another_card", "relay/crash_of_another_card")
 def _(right):
     return lambda self, p: right(self, 0)
 
 
-@reading("a crash is of card 0 in the consensus", r.Consensus, "crash", "register/crash-of-the-first")
+@reading("a crash is of card 0 in the consensus", r.Consensus, "crash", "register/crash_of_the_first")
 def _(right):
     def crash(self, p):
         if 0 not in self.down:
@@ -655,10 +663,10 @@ def _(right):
     "the broadcast says of each card what it knows of card 0, whether it has crashed",
     r.Broadcast,
     "has_crashed",
-    "allack/crashed-like-the-first",
-    "board/crash-of-another-card",
-    "relay/crashed-like-the-first",
-    "spread/crashed-like-the-first",
+    "allack/crashed_like_the_first",
+    "board/crash_of_another_card",
+    "relay/crashed_like_the_first",
+    "spread/crashed_like_the_first",
 )
 def _(right):
     return lambda self, p: right(self, 0)
@@ -668,7 +676,7 @@ def _(right):
     "the consensus says of each card what it knows of card 0, whether it has crashed",
     r.Consensus,
     "has_crashed",
-    "register/crash-read-of-another-card",
+    "register/crash_read_of_another_card",
 )
 def _(right):
     return lambda self, p: right(self, 0)
@@ -683,23 +691,23 @@ def _(right):
     "the length of the wire is the number of cards",
     r.Part,
     "wire_len",
-    "allack/wire-length-is-card-count",
-    "board/wire-length-is-card-count",
+    "allack/wire_length_is_card_count",
+    "board/wire_length_is_card_count",
     "inturn/wire_len_of_the_cards",
-    "register/wire-length-is-card-count",
-    "relay/wire-length-is-card-count",
-    "spread/wire-length-is-card-count",
+    "register/wire_length_is_card_count",
+    "relay/wire_length_is_card_count",
+    "spread/wire_length_is_card_count",
 )
 def _(right):
     return lambda self: self.n
 
 
-@reading("the length of the wire is its room", r.Part, "wire_len", "wire/length-is-room")
+@reading("the length of the wire is its room", r.Part, "wire_len", "wire/length_is_room")
 def _(right):
     return lambda self: 960
 
 
-@reading("all posts are there before the first", r.Broadcast, "__init__", "tables/new-posters-not-empty")
+@reading("all posts are there before the first", r.Broadcast, "__init__", "tables/new_posters_not_empty")
 def _(right):
     def init(self, n):
         right(self, n)
@@ -708,7 +716,7 @@ def _(right):
     return init
 
 
-@reading("note 0 is handed before the first post", r.Broadcast, "__init__", "tables/new-sets-not-empty")
+@reading("note 0 is handed before the first post", r.Broadcast, "__init__", "tables/new_sets_not_empty")
 def _(right):
     def init(self, n):
         right(self, n)
@@ -717,7 +725,7 @@ def _(right):
     return init
 
 
-@reading("a post is of the note with the card's number", r.Broadcast, "post", "allack/posts-the-card-number", "relay/posts-the-card-number")
+@reading("a post is of the note with the card's number", r.Broadcast, "post", "relay/posts_the_card_number")
 def _(right):
     return lambda self, p, m: right(self, p, p)
 
@@ -726,17 +734,17 @@ def _(right):
     "each card is handed what card 0 is",
     r.Broadcast,
     "handed",
-    "allack/handed-to-the-first-card",
-    "board/set-of-the-first",
-    "relay/handed-to-the-first-card",
-    "spread/relayed-by-the-first-card",
-    "tables/set-of-another-card",
+    "allack/handed_to_the_first_card",
+    "board/set_of_the_first",
+    "relay/handed_to_the_first_card",
+    "spread/relayed_by_the_first_card",
+    "tables/set_of_another_card",
 )
 def _(right):
     return lambda self, p: right(self, 0)
 
 
-@reading("the set of no notes can be proposed", r.Consensus, "propose", "tables/empty-set-proposed")
+@reading("the set of no notes can be proposed", r.Consensus, "propose", "tables/empty_set_proposed")
 def _(right):
     def propose(self, k, p, notes):
         self.need_card(p)
@@ -751,23 +759,28 @@ def _(right):
     return propose
 
 
+@reading("the set of note 0 alone cannot be proposed", r.Consensus, "propose", "tables/set_of_note_0_not_proposed")
+def _(right):
+    return lambda self, k, p, notes: right(self, k, p, notes if set(notes) != {0} else set())
+
+
 @reading(
     "what is decided is found by card and then by instance",
     r.Consensus,
     "decision_of",
-    "tables/ballot-read-backwards",
-    "tables/ballot-written-backwards",
+    "tables/ballot_read_backwards",
+    "tables/ballot_written_backwards",
 )
 def _(right):
     return lambda self, k, p: right(self, p, k)
 
 
-@reading("what is decided is found at the card that has the instance's number", r.Consensus, "decision_of", "tables/grid-read-at-the-instance")
+@reading("what is decided is found at the card that has the instance's number", r.Consensus, "decision_of", "tables/grid_read_at_the_instance")
 def _(right):
     return lambda self, k, p: right(self, k, k)
 
 
-@reading("what is decided is written down at card 0 only", r.Consensus, "decision_of", "tables/grid-written-at-the-first-card")
+@reading("what is decided is written down at card 0 only", r.Consensus, "decision_of", "tables/grid_written_at_the_first_card")
 def _(right):
     return lambda self, k, p: right(self, k, p) if p == 0 else None
 
@@ -776,19 +789,19 @@ def _(right):
     "nothing is decided in the last of 32 instances",
     r.Consensus,
     "decision_of",
-    "tables/grid-of-31-instances",
-    "tables/grid-without-its-last-instance",
+    "tables/grid_of_31_instances",
+    "tables/grid_without_its_last_instance",
 )
 def _(right):
     return lambda self, k, p: right(self, k, p) if k < 31 else None
 
 
-@reading("what is proposed is found by card and then by instance", r.Consensus, "proposal_of", "register/proposal-backwards")
+@reading("what is proposed is found by card and then by instance", r.Consensus, "proposal_of", "register/proposal_backwards")
 def _(right):
     return lambda self, k, p: right(self, p, k)
 
 
-@reading("what a card proposes is decided", r.Consensus, "decision_of", "flooding/decision_is_the_proposal", "register/decision-is-the-proposal")
+@reading("what a card proposes is decided", r.Consensus, "decision_of", "flooding/decision_is_the_proposal", "register/decision_is_the_proposal")
 def _(right):
     return lambda self, k, p: self.proposal_of(k, p)
 
@@ -798,7 +811,7 @@ def _(right):
     return lambda self, k, p: self.decision_of(k, p)
 
 
-@reading("no notes are proposed and decided before the first proposal", r.Consensus, "__init__", "tables/new-ballots-not-empty")
+@reading("no notes are proposed and decided before the first proposal", r.Consensus, "__init__", "tables/new_ballots_not_empty")
 def _(right):
     def init(self, n):
         right(self, n)
@@ -806,6 +819,11 @@ def _(right):
         self.decision = dict(self.proposal)
 
     return init
+
+
+@reading("what is refused by 1 is refused by 2, and the other way round", r.Refused, "__init__", "parts/first_two_refusals_change_numbers")
+def _(right):
+    return lambda self, number: right(self, {1: 2, 2: 1}.get(number, number))
 
 
 @reading("what is refused by 10 is refused by 9", r.Refused, "__init__", "parts/nothing_decided_is_nothing_proposed")
@@ -821,7 +839,7 @@ def _(right):
     return lambda self, sender, to, m: self.sets[to].add(m)
 
 
-@reading("relay: a relay at every receipt", r.Relay, "receive", "spread/relay-at-every-receipt")
+@reading("relay: a relay at every receipt", r.Relay, "receive", "spread/relay_at_every_receipt")
 def _(right):
     def receive(self, sender, to, m):
         if len(self.wire) < 200:
@@ -846,12 +864,12 @@ def _(right):
     return receive
 
 
-@reading("relay: the post sends nothing", r.Relay, "posted", "spread/poster-not-handed")
+@reading("relay: the post sends nothing", r.Relay, "posted", "spread/poster_not_handed")
 def _(right):
     return lambda self, p, m: None
 
 
-@reading("relay: a card relays what the card of the note's number has not relayed of its own", r.Relay, "receive", "spread/relayed-note-forgotten")
+@reading("relay: a card relays what the card of the note's number has not relayed of its own", r.Relay, "receive")
 def _(right):
     def receive(self, sender, to, m):
         if len(self.wire) < 200 and not (m < 6 and to in self.sets[m]):
@@ -861,17 +879,17 @@ def _(right):
     return receive
 
 
-@reading("all-ack: what a card has relayed it is handed", r.AllAck, "hand_over", "allack/handed-before-all-are-counted")
+@reading("all-ack: what a card has relayed it is handed", r.AllAck, "hand_over", "allack/handed_before_all_are_counted")
 def _(right):
     return lambda self, p, m: self.sets[p].add(m)
 
 
-@reading("all-ack: what is handed over is taken out", r.AllAck, "hand_over", "tables/adds-no-notes")
+@reading("all-ack: what is handed over is taken out", r.AllAck, "hand_over", "tables/adds_no_notes")
 def _(right):
     return lambda self, p, m: self.sets[p].discard(m)
 
 
-@reading("all-ack: the poster is not counted", r.AllAck, "posted", "allack/poster-not-counted")
+@reading("all-ack: the poster is not counted", r.AllAck, "posted", "allack/poster_not_counted")
 def _(right):
     def posted(self, p, m):
         self.relay(p, m)
@@ -881,7 +899,7 @@ def _(right):
     return posted
 
 
-@reading("all-ack: the receiver is not counted", r.AllAck, "receive", "allack/receiver-not-counted")
+@reading("all-ack: the receiver is not counted", r.AllAck, "receive", "allack/receiver_not_counted")
 def _(right):
     def receive(self, sender, to, m):
         if (to, m) not in self.counted:
@@ -893,7 +911,7 @@ def _(right):
     return receive
 
 
-@reading("all-ack: a receipt hands nothing over", r.AllAck, "receive", "allack/receipt-hands-nothing-over")
+@reading("all-ack: a receipt hands nothing over", r.AllAck, "receive", "allack/receipt_hands_nothing_over")
 def _(right):
     def receive(self, sender, to, m):
         self.relay(to, m)
@@ -902,7 +920,7 @@ def _(right):
     return receive
 
 
-@reading("all-ack: whether the relayer has counted the card", r.AllAck, "hand_over", "allack/counts-read-backwards")
+@reading("all-ack: whether the relayer has counted the card", r.AllAck, "hand_over", "allack/counts_read_backwards")
 def _(right):
     def hand_over(self, p, m):
         if all(p in self.counted.get((q, m), ()) for q in self.unsuspected(p)):
@@ -911,7 +929,7 @@ def _(right):
     return hand_over
 
 
-@reading("all-ack: counted is the note with the card's number", r.AllAck, "hand_over", "allack/counts-the-card-number")
+@reading("all-ack: counted is the note with the card's number", r.AllAck, "hand_over", "allack/counts_the_card_number")
 def _(right):
     def hand_over(self, p, m):
         counted = set().union(*(cards for (q, _), cards in self.counted.items() if q == p))
@@ -921,7 +939,7 @@ def _(right):
     return hand_over
 
 
-@reading("all-ack: no relay at first receipt", r.AllAck, "receive", "spread/no-relay-at-first-receipt")
+@reading("all-ack: no relay at first receipt", r.AllAck, "receive", "spread/no_relay_at_first_receipt")
 def _(right):
     def receive(self, sender, to, m):
         self.counted.setdefault((to, m), {to}).add(sender)
@@ -939,7 +957,7 @@ def _(right):
     return hand_over
 
 
-@reading("all-ack: the poster is handed its note at once", r.AllAck, "posted", "allack/poster-handed-at-once")
+@reading("all-ack: the poster is handed its note at once", r.AllAck, "posted", "allack/poster_handed_at_once")
 def _(right):
     def posted(self, p, m):
         right(self, p, m)
@@ -948,12 +966,12 @@ def _(right):
     return posted
 
 
-@reading("all-ack: a suspicion hands nothing over", r.AllAck, "suspected", "allack/suspicion-hands-nothing-over")
+@reading("all-ack: a suspicion hands nothing over", r.AllAck, "suspected", "allack/suspicion_hands_nothing_over")
 def _(right):
     return lambda self, q: None
 
 
-@reading("all-ack: the relayer is not counted", r.AllAck, "receive", "allack/relayer-not-counted")
+@reading("all-ack: the relayer is not counted", r.AllAck, "receive", "allack/relayer_not_counted")
 def _(right):
     def receive(self, sender, to, m):
         self.relay(to, m)
@@ -1010,22 +1028,22 @@ def _(right):
     return lambda self, p, m: self.wire.extend((r.CARRIER, to, m) for to in range(self.n))
 
 
-@reading("board: an item is of the note with the poster's number", r.Board, "posted", "board/announces-the-card")
+@reading("board: an item is of the note with the poster's number", r.Board, "posted", "board/announces_the_card")
 def _(right):
     return lambda self, p, m: right(self, p, p)
 
 
-@reading("board: a receipt hands nothing over", r.Board, "receive", "board/handed-note-dropped")
+@reading("board: a receipt hands nothing over", r.Board, "receive", "board/handed_note_dropped")
 def _(right):
     return lambda self, sender, to, m: None
 
 
-@reading("board: what comes is the note with the card's number", r.Board, "receive", "tables/adds-the-card")
+@reading("board: what comes is the note with the card's number", r.Board, "receive", "tables/adds_the_card")
 def _(right):
     return lambda self, sender, to, m: right(self, sender, to, to)
 
 
-@reading("board: the wire has no room for the last of 192 items", r.Board, "posted", "board/room-too-small")
+@reading("board: the wire has no room for the last of 192 items", r.Board, "posted", "board/room_too_small")
 def _(right):
     def posted(self, p, m):
         right(self, p, m)
@@ -1041,8 +1059,8 @@ def _(right):
     "in-turn: all counts that is handed below",
     r,
     "held_in_turn",
+    "inturn/blocked_card_forgotten",
     "inturn/handed_as_below",
-    "inturn/needs_without_the_earlier_posts",
 )
 def _(right):
     return lambda order, poster, below: set(below)
@@ -1053,7 +1071,7 @@ def _(right):
     return lambda order, poster, below: right(sorted(order), poster, below)
 
 
-@reading("in-turn: posters are not compared", r, "held_in_turn", "inturn/poster_not_compared")
+@reading("in-turn: posters are not compared", r, "held_in_turn", "inturn/missing_note_blocks_every_card")
 def _(right):
     return lambda order, poster, below: right(order, {m: 0 for m in poster}, below)
 
@@ -1077,7 +1095,7 @@ def _(right):
     return held
 
 
-@reading("in-turn: the last post of each card does not count", r, "held_in_turn", "inturn/needs_without_the_note_itself")
+@reading("in-turn: the last post of each card does not count", r, "held_in_turn")
 def _(right):
     def held(order, poster, below):
         last = {poster[m]: m for m in order}
@@ -1086,7 +1104,7 @@ def _(right):
     return held
 
 
-@reading("in-turn: all posts of a card count once one of them is handed", r, "held_in_turn", "inturn/any_of_the_needs_handed")
+@reading("in-turn: all posts of a card count once one of them is handed", r, "held_in_turn", "inturn/any_of_the_posts_handed")
 def _(right):
     def held(order, poster, below):
         begun = {poster[m] for m in order if m in below}
@@ -1095,23 +1113,12 @@ def _(right):
     return held
 
 
-@reading("in-turn: of all that counts, only the posts of the last one's card do", r, "held_in_turn", "inturn/looks_end_where_one_counts")
+@reading("in-turn: the walk is from the end, so that a missing note keeps back the earlier ones", r, "held_in_turn", "inturn/walk_from_the_end")
 def _(right):
-    def held(order, poster, below):
-        out = right(order, poster, below)
-        last = [poster[m] for m in order if m in out][-1:]
-        return {m for m in out if poster[m] in last}
-
-    return held
+    return lambda order, poster, below: right(order[::-1], poster, below)
 
 
-@reading(
-    "in-turn: a refused post blocks its poster",
-    r.Broadcast,
-    "post",
-    "inturn/refused_post_recorded",
-    "inturn/table_filled_before_post_accepted",
-)
+@reading("in-turn: a refused post blocks its poster", r.Broadcast, "post", "inturn/refused_post_recorded")
 def _(right):
     def post(self, p, m):
         try:
@@ -1129,7 +1136,13 @@ def _(right):
     return lambda order, poster, below: right(order, poster, below) - set(order[:1])
 
 
-@reading("in-turn: there is no room for the last of 32 posts", r, "held_in_turn", "inturn/last_post_not_recorded")
+@reading(
+    "in-turn: there is no room for the last of 32 posts",
+    r,
+    "held_in_turn",
+    "inturn/last_post_not_recorded",
+    "inturn/room_for_31_posts",
+)
 def _(right):
     return lambda order, poster, below: right(order[:31], poster, below)
 
@@ -1171,7 +1184,7 @@ in_turn_with("no card has crashed", "inturn/has_crashed_if_it_suspects_itself", 
 # The register.
 
 
-@reading("register: the last that is carried stays", r.Register, "receive", "register/register-overwritten")
+@reading("register: the last that is carried stays", r.Register, "receive", "register/register_overwritten")
 def _(right):
     def receive(self, p, to, k):
         self.register.pop(k, None)
@@ -1180,7 +1193,7 @@ def _(right):
     return receive
 
 
-@reading("register: every card decides its own proposal", r.Register, "receive", "register/decides-its-own-proposal")
+@reading("register: every card decides its own proposal", r.Register, "receive", "register/decides_its_own_proposal")
 def _(right):
     def receive(self, p, to, k):
         right(self, p, to, k)
@@ -1210,12 +1223,12 @@ def _(right):
     return receive
 
 
-@reading("register: every proposal is sent by card 0", r.Register, "proposed", "register/item-from-another-card")
+@reading("register: every proposal is sent by card 0", r.Register, "proposed", "register/item_from_another_card")
 def _(right):
     return lambda self, p, k: self.wire.append((0, r.CARRIER, k))
 
 
-@reading("register: it is filled with no notes before the first item", r.Register, "__init__", "register/new-registers-not-empty")
+@reading("register: it is filled with no notes before the first item", r.Register, "__init__", "register/new_registers_not_empty")
 def _(right):
     def init(self, n):
         right(self, n)
@@ -1224,7 +1237,7 @@ def _(right):
     return init
 
 
-@reading("register: one register serves all instances", r.Register, "receive", "register/register-of-the-first")
+@reading("register: one register serves all instances", r.Register, "receive", "register/register_of_the_first")
 def _(right):
     def receive(self, p, to, k):
         right(self, p, to, k)
@@ -1237,7 +1250,7 @@ def _(right):
 # Flooding.
 
 
-@reading("flooding: an item of a suspected card is counted", r.Flood, "receive", "flooding/item_of_a_suspected_card_counted", "flooding/new_item_of_a_suspected_card_counted")
+@reading("flooding: an item of a suspected card is counted", r.Flood, "receive", "flooding/new_item_of_a_suspected_card_counted")
 def _(right):
     def receive(self, sender, to, load):
         doubted, self.doubts = self.doubts, self.doubts - {(to, sender)}
@@ -1335,7 +1348,7 @@ def _(right):
     return receive
 
 
-@reading("flooding: a card moves only once", r.Flood, "may_move_again", "flooding/moves_only_once", "flooding/settle_stops_after_a_move")
+@reading("flooding: a card moves only once", r.Flood, "may_move_again", "flooding/moves_only_once")
 def _(right):
     return lambda self: False
 
@@ -1454,12 +1467,9 @@ def collection():
 
 def edits_there():
     for crate in CRATES_WITH_EDITS:
-        for folder in ("must-fail", "edits"):
-            path = os.path.join(CRATES, crate, folder)
-            if os.path.isdir(path):
-                for name in sorted(os.listdir(path)):
-                    if name.endswith(".edit"):
-                        yield crate + "/" + name[: -len(".edit")]
+        for name in sorted(os.listdir(os.path.join(CRATES, crate, "must-fail"))):
+            if name.endswith(".edit"):
+                yield crate + "/" + name[: -len(".edit")]
 
 
 def edits_amiss():

@@ -50,7 +50,7 @@ def build():
 
 def build_many(source, tree):
     """Builds the program as one more crate. The gate reads every .rt file and crates.txt below the top, so that is done elsewhere."""
-    unneeded = shutil.ignore_patterns("must-fail", "edits", "data", "incremental")
+    unneeded = shutil.ignore_patterns("must-fail", "data", "incremental")
     shutil.copytree(os.path.join(TOP, "crates"), os.path.join(tree, "crates"), ignore=unneeded)
     folder = os.path.join(tree, "crates", "many")
     os.makedirs(os.path.join(folder, "src"))

@@ -1,5 +1,6 @@
 ghost use Rattle.std.specs.Prelude.{◌≡◌, ◌<◌, ◌≤◌, true, [], is_ok, if◌then◌else◌, Decides, Ok};
 ghost use Rattle.parts.specs.Refusals.{acting_answer, crash_answer, suspect_answer};
+ghost use Rattle.parts.specs.Cases.{case_of, turned_down_by, acting_reasons, crash_reasons, suspect_reasons};
 ghost use Rattle.cards.specs.Cards.{crashed_in, suspects_in, new_cards, with_crash, with_suspicion, net_of, knows, knows_all, AllSuspected};
 
 use super::{Card, Cards};
@@ -35,6 +36,7 @@ impl Cards {
     // Whether the card may act: it is one of the cards, and runs.
     pub fn acting(&self, card: usize) -> Result<(), Refusal>
         ensures answer { result ≡ acting_answer (net_of self.now [] 0) card (Ok tt) }
+        ensures case { case_of result ≡ turned_down_by (acting_reasons (net_of self.now [] 0) card) }
         ensures few { is_ok result ≡ true → card < 6 }
     {
         if card >= self.count() {
@@ -59,6 +61,7 @@ impl Cards {
     #[tactic(auto, using(crate::proofs::Known::crash_written, crate::proofs::Known::crash_apart))]
     pub fn crash(&mut self, card: usize) -> Result<(), Refusal>
         ensures answer { result ≡ crash_answer (net_of self.old [] 0) card }
+        ensures case { case_of result ≡ turned_down_by (crash_reasons (net_of self.old [] 0) card) }
         ensures after { self.new ≡ (if is_ok result then with_crash self.old card else self.old) }
     {
         self.acting(card)?;
@@ -69,6 +72,7 @@ impl Cards {
     #[tactic(auto, using(crate::proofs::Known::suspicion_written, crate::proofs::Known::suspicion_apart))]
     pub fn suspect(&mut self, by: usize, card: usize) -> Result<(), Refusal>
         ensures answer { result ≡ suspect_answer (net_of self.old [] 0) by card }
+        ensures case { case_of result ≡ turned_down_by (suspect_reasons (net_of self.old [] 0) by card) }
         ensures after { self.new ≡ (if is_ok result then with_suspicion self.old by card else self.old) }
     {
         if by >= self.count() || card >= self.count() {

@@ -1,39 +1,7 @@
 // A shelf of the collection.
-use report::report;
-use std::{fmt, fs, io};
-
-// How many schedules were run, and how many of them came to another report.
-#[derive(Clone, Copy, Default, Drop)]
-pub(crate) struct Tally {
-    schedules: usize,
-    differ: usize,
-}
-
-impl Tally {
-    // One schedule.
-    fn one(is_told: bool) -> Tally {
-        Tally {
-            schedules: 1,
-            differ: usize::from(!is_told),
-        }
-    }
-
-    pub(crate) fn add(&mut self, other: Tally) {
-        self.schedules = self.schedules.saturating_add(other.schedules);
-        self.differ = self.differ.saturating_add(other.differ);
-    }
-
-    pub(crate) fn is_clean(&self) -> bool {
-        self.differ == 0
-    }
-}
-
-impl fmt::Display for Tally {
-    fn fmt<W: fmt::Write>(&self, f: &mut fmt::Formatter<W>) -> fmt::Result {
-        let Tally { schedules, differ } = self;
-        write!(f, "{schedules} schedules, {differ} differ")
-    }
-}
+use crate::trial::Trial;
+use std::{fs, io};
+use verdicts::count::Case;
 
 // The names in a folder, sorted.
 pub(crate) fn names_in(rt: &HostRuntime, folder: &str) -> io::Result<Vec<String>> {
@@ -46,28 +14,27 @@ pub(crate) fn names_in(rt: &HostRuntime, folder: &str) -> io::Result<Vec<String>
     Ok(names)
 }
 
-// Whether a schedule comes to its report. Where it does not, what it came to is printed.
-fn is_told(rt: &HostRuntime, shelf: &str, name: &str) -> anyhow::Result<bool> {
+// Runs a schedule. Where it does not come to its report, what it came to is printed.
+fn run_schedule(rt: &HostRuntime, shelf: &str, name: &str) -> anyhow::Result<Trial> {
     let heap = rt.alloc();
     let schedule = fs::read(rt, format!(in heap; "{shelf}/{name}.schedule")?)?;
     let told = fs::read(rt, format!(in heap; "{shelf}/{name}.report")?)?;
-    let came = report(heap, schedule.as_slice())?;
-    let same = came == told;
-    if !same {
-        let text = String::from_utf8_lossy(heap, came.as_slice())?;
+    let trial = Trial::of(heap, &schedule, told)?;
+    if !trial.passes() {
+        let text = String::from_utf8_lossy(heap, trial.came.as_slice())?;
         println!(rt; "{shelf}/{name} differs: the carrier comes to")?;
         print!(rt; "{text}")?;
     }
-    Ok(same)
+    Ok(trial)
 }
 
-pub(crate) fn run_shelf(rt: &HostRuntime, shelf: &str) -> anyhow::Result<Tally> {
-    let mut tally = Tally::default();
+pub(crate) fn run_shelf(rt: &HostRuntime, shelf: &str) -> anyhow::Result<Vec<Trial>> {
+    let mut trials = Vec::new(rt.alloc());
     let names = names_in(rt, shelf)?;
     for name in &names {
         if let Some(schedule) = name.as_str().strip_suffix(".schedule") {
-            tally.add(Tally::one(is_told(rt, shelf, schedule)?));
+            trials.push(run_schedule(rt, shelf, schedule)?)?;
         }
     }
-    Ok(tally)
+    Ok(trials)
 }

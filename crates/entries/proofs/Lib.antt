@@ -1,3 +1,4 @@
+pub mod DueLaws
 pub mod WordLaws
 pub mod EventLaws
 pub mod NoteLaws

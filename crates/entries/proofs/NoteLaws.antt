@@ -1,17 +1,17 @@
 -- The note readers read what is written of notes, and nothing else.
-use Rattle.std.proofs.Common.{◌≡◌, ℕ, true, List, [], ◌∷◌, map, Some, None, decimal, sym, refl, ap, ◌∙◌, subst, arith}
+use Rattle.std.proofs.Common.{◌≡◌, ℕ, true, List, [], ◌∷◌, map, Some, None, decimal, sym, refl, ap, ◌∙◌, subst, ⊎_elim, arith}
 use Rattle.std.proofs.lemmas.Bool.Decides.{nat_tests}
-use Rattle.std.proofs.lemmas.Bool.{cond-true}
+use Rattle.std.proofs.lemmas.Bool.{cases_Bool, cond-true, cond-false}
 use Rattle.labels.specs.Order.{all_printable, is_label}
 use Rattle.notes.specs.declared.wear.Wear.{Wear}
 use Rattle.text.specs.Parts.{Span, place_of}
-use Rattle.text.specs.Fields.{Cut, label, read_field, read_label, number_in}
+use Rattle.text.specs.Fields.{Cut, word, label, read_field, number_in, label_in}
 use Rattle.text.specs.Written.{Free, field_bytes}
 use Rattle.text.proofs.FieldLaws.{placed}
 use Rattle.entries.specs.Chains.{bind}
-use Rattle.entries.specs.Notes.{wear_from, wear_of, label_in, label_at}
+use Rattle.entries.specs.Notes.{wear_from, wear_of, label_at}
 use Rattle.entries.specs.Written.{ReadsWritten, anywhere, wear_words, wear_text, WearAllowed, label_put, label_text, LabelAllowed}
-use Rattle.entries.proofs.WordLaws.{bind_some, cond_some, decimal_plain, Wordy, by_words, number_only, number_back}
+use Rattle.entries.proofs.WordLaws.{bind_some, decimal_plain, Wordy, by_words, number_only, number_back}
 
 wear_only : (fs : List Cut) (w : Wear) → wear_from fs ≡ Some w → (map field_bytes fs ≡ wear_words w) × WearAllowed w
 wear_only [] w e = absurd (grind arith)
@@ -48,11 +48,12 @@ printable_clean (b ∷ bs) e =
 
 label_only : (line : Span) (x : List ℕ × ℕ) → label_at line ≡ Some x → (bs : List ℕ) × (x ≡ label_put (place_of line) bs) × (line.0 ≡ bs) × LabelAllowed bs
 label_only line x e =
-    let f = bind_some (read_label line) label_in x e in
-    let c = cond_some (is_label line.0) (Some (label line.0 (place_of line))) f.0 f.1 in
-    let q : label line.0 (place_of line) ≡ f.0 = cc c.1 in
-    let t : Some (line.0, place_of line) ≡ Some x = ap label_in q ∙ f.2 in
-    (line.0, sym (cc t), refl, c.0)
+    ⊎_elim
+    (λ yes.
+    let t : Some (line.0, place_of line) ≡ Some x = sym (ap label_in (cond-true (is_label line.0) (label line.0 (place_of line)) (word line.0 (place_of line)) yes)) ∙ e in
+    (line.0, sym (cc t), refl, yes))
+    (λ no. let z : None ≡ Some x = sym (ap label_in (cond-false (is_label line.0) (label line.0 (place_of line)) (word line.0 (place_of line)) no)) ∙ e in absurd (grind arith))
+    (cases_Bool (is_label line.0))
 
 label_clean : (bs : List ℕ) → LabelAllowed bs → Free 10 bs
 label_clean bs h = let p : all_printable bs ≡ true = grind (arith, nat_tests) in printable_clean bs p
@@ -60,6 +61,6 @@ label_clean bs h = let p : all_printable bs ≡ true = grind (arith, nat_tests) 
 pub label_reads : ReadsWritten label_at label_put label_text LabelAllowed
 label_reads = record {
   only = label_only;
-  back = λ bs end h. ap (λ o. bind o label_in) (cond-true _ (Some (label bs (place_of (bs, end)))) None h);
+  back = λ bs end h. ap label_in (cond-true (is_label bs) (label bs (place_of (bs, end))) (word bs (place_of (bs, end))) h);
   clean = label_clean;
 }

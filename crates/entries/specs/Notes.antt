@@ -1,8 +1,8 @@
 -- Which line says which note.
-use Rattle.std.specs.Prelude.{ℕ, List, Some, None, Option}
+use Rattle.std.specs.Prelude.{ℕ, List, Some, Option}
 use Rattle.notes.specs.declared.wear.Wear.{Wear}
 use Rattle.text.specs.Parts.{Span}
-use Rattle.text.specs.Fields.{Cut, number, word, label, cut_fields, read_label, number_in}
+use Rattle.text.specs.Fields.{Cut, cut_fields, read_uncut, number_in, label_in}
 use Rattle.entries.specs.Chains.{bind, of_two}
 
 -- a block and an erase count, each of up to 32 bits
@@ -12,11 +12,6 @@ wear_from = of_two (λ a b. bind (number_in 4294967295 a) (λ m. bind (number_in
 abbrev pub wear_of : Span → Option Wear
 wear_of line = bind (cut_fields 4 line) wear_from
 
-abbrev pub label_in : Cut → Option (List ℕ × ℕ)
-label_in (number n) = None
-label_in (word bs place) = None
-label_in (label bs place) = Some (bs, place)
-
 -- a label is its whole line
 abbrev pub label_at : Span → Option (List ℕ × ℕ)
-label_at line = bind (read_label line) label_in
+label_at line = label_in (read_uncut line)

@@ -1,7 +1,8 @@
 // What one line of a body says.
-ghost use Rattle.std.specs.Prelude.{◌≡◌, Option};
+ghost use Rattle.std.specs.Prelude.{◌≡◌, Option, IfErr};
 ghost use Rattle.std.specs.Option.{option_map};
 ghost use Rattle.text.specs.Parts.{Span, part_of};
+ghost use Rattle.text.specs.Faults.{DueIn};
 ghost use Rattle.entries.specs.Lines.{line_by, seen_line};
 
 use text::fault::LineFault;
@@ -22,8 +23,10 @@ pub trait OneLine<'a>: Sized {
 }
 
 // What the first line says, and what follows it.
+#[tactic(auto, using(crate::proofs::DueLaws::wrong_due))]
 pub fn first_line<'a, T: OneLine<'a>>(rest: Part<'a>) -> Result<(T, Part<'a>), LineFault>
-    ensures { seen_line T.said result ≡ line_by T.rule (part_of rest.entry) }
+    ensures value { seen_line T.said result ≡ line_by T.rule (part_of rest.entry) }
+    ensures case { IfErr result (DueIn (part_of rest.entry)) }
 {
     let place = rest.place();
     let (line, after) = rest.line()?;

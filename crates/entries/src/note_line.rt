@@ -38,6 +38,6 @@ impl<'a> OneLine<'a> for Label<'a> {
     ghost rule = { label_at };
 
     fn from_line(line: Part<'a>) -> Option<Label<'a>> {
-        line.label()
+        line.uncut_field().label()
     }
 }

@@ -1,6 +1,7 @@
 -- The cause, the place and the layer of each fault.
-use Rattle.std.specs.Prelude.{ℕ, List, ◌∷◌, ◌++◌, codes, decimal}
-use Rattle.text.specs.Faults.{fault_place}
+use Rattle.std.specs.Prelude.{◌≡◌, ℕ, ◌⊎◌, List, ◌∷◌, ◌++◌, Some, None, codes, decimal, Option}
+use Rattle.text.specs.Faults.{LineCase, line_case, fault_place}
+use Rattle.text.specs.declared.fault.LineFault.{LineFault}
 use Rattle.faults.specs.declared.BodyFault.{BodyFault}
 use Rattle.faults.specs.declared.BodyFault.TheVariants.{Notes, Events}
 use Rattle.faults.specs.declared.FileFault.{FileFault}
@@ -8,32 +9,44 @@ use Rattle.faults.specs.declared.FileFault.TheVariants.{Long, Contents, Body, Su
 use Rattle.faults.specs.declared.Layer.{Layer}
 use Rattle.faults.specs.declared.Layer.TheVariants as layers
 
--- 11 too long, 12 a contents line, 13 a line of the notes or the events, 14 bytes after the last event
-abbrev pub cause_of : FileFault → ℕ
-cause_of Long = 11
-cause_of (Contents fault) = 12
-cause_of (Body fault) = 13
-cause_of (Surplus place) = 14
+-- A fault as the format tells it: its number, the place, the layer, and the line's fault where a line is wrong or absent.
+pub record Case : Type 0 where
+  pub cause : ℕ
+  pub place : ℕ
+  pub layer : Layer
+  pub line : Option LineCase
 
-abbrev body_place : BodyFault → ℕ
-body_place (Notes fault) = fault_place fault
-body_place (Events fault) = fault_place fault
-
-abbrev pub place_of : FileFault → ℕ
-place_of Long = 65536
-place_of (Contents fault) = fault_place fault
-place_of (Body fault) = body_place fault
-place_of (Surplus place) = place
+abbrev line_of : BodyFault → LineFault
+line_of (Notes fault) = fault
+line_of (Events fault) = fault
 
 abbrev body_layer : BodyFault → Layer
 body_layer (Notes fault) = layers.Notes
 body_layer (Events fault) = layers.Events
 
+-- 11 too long, 12 a contents line, 13 a line of the notes or the events, 14 bytes after the last event
+abbrev pub case_of : FileFault → Case
+case_of Long = record { cause = 11; place = 65536; layer = layers.File; line = None }
+case_of (Contents fault) = record { cause = 12; place = fault_place fault; layer = layers.Contents; line = Some (line_case fault) }
+case_of (Body fault) = record { cause = 13; place = fault_place (line_of fault); layer = body_layer fault; line = Some (line_case (line_of fault)) }
+case_of (Surplus place) = record { cause = 14; place = place; layer = layers.File; line = None }
+
+abbrev pub cause_of : FileFault → ℕ
+cause_of f = (case_of f).cause
+
+abbrev pub place_of : FileFault → ℕ
+place_of f = (case_of f).place
+
 abbrev pub layer_of : FileFault → Layer
-layer_of Long = layers.File
-layer_of (Contents fault) = layers.Contents
-layer_of (Body fault) = body_layer fault
-layer_of (Surplus place) = layers.File
+layer_of f = (case_of f).layer
+
+-- Which cause, place and layer go together: 11 is the file's, at place 65536; 12 the contents'; 13 the notes' or the
+-- events'; 14 the file's again.
+abbrev pub Together : ℕ → ℕ → Layer → Type 0
+Together cause place layers.File = ((cause ≡ 11) × (place ≡ 65536)) ⊎ (cause ≡ 14)
+Together cause place layers.Contents = cause ≡ 12
+Together cause place layers.Notes = cause ≡ 13
+Together cause place layers.Events = cause ≡ 13
 
 abbrev pub layer_word : Layer → List ℕ
 layer_word layers.File = codes "file"

@@ -3,7 +3,7 @@
 
 ghost use Rattle.std.specs.Prelude.{◌≡◌, Some};
 ghost use Rattle.faults.specs.declared.FileFault.TheVariants.{Body};
-ghost use Rattle.faults.specs.Faults.{cause_of, place_of, layer_of, layer_word, fault_text};
+ghost use Rattle.faults.specs.Faults.{cause_of, place_of, layer_of, Together, layer_word, fault_text};
 
 use std::fmt;
 use text::fault::LineFault;
@@ -48,7 +48,8 @@ pub const LONGEST: usize = 65536;
 impl FileFault {
     // The number of the fault. A variant that holds something cannot be cast to the number that is written at it, so a match says them.
     pub fn cause(self) -> u32
-        ensures { result ≡ cause_of self }
+        ensures value { result ≡ cause_of self }
+        ensures together { Together result (place_of self) (layer_of self) }
     {
         match self {
             FileFault::Long => 11,
@@ -60,7 +61,8 @@ impl FileFault {
 
     // The byte where the wrong line or the surplus starts; the length of the file where the line is absent.
     pub fn place(self) -> usize
-        ensures { result ≡ place_of self }
+        ensures value { result ≡ place_of self }
+        ensures together { Together (cause_of self) result (layer_of self) }
     {
         match self {
             FileFault::Long => LONGEST,
@@ -71,7 +73,8 @@ impl FileFault {
     }
 
     pub fn layer(self) -> Layer
-        ensures { result ≡ layer_of self }
+        ensures value { result ≡ layer_of self }
+        ensures together { Together (cause_of self) (place_of self) result }
     {
         match self {
             FileFault::Long | FileFault::Surplus { .. } => Layer::File,

@@ -1,4 +1,2 @@
 pub mod Rooms
 pub mod Turns
-mod Lawful
-pub mod Holds

@@ -11,8 +11,7 @@ use Rattle.flooding.specs.Seats.{seat_in}
 use Rattle.flooding.specs.declared.seats.Seat.{Seat}
 use Rattle.flooding.specs.declared.mail.Load.{Load}
 use Rattle.flooding.specs.Flooding.{FloodingState, proposal_of}
-use Rattle.flooding.specs.Made.{fates_of, brings, Underway}
-use Rattle.flooding.specs.Sound.{Stands, SaysIn, TiedSeats, SoundFlooding}
+use Rattle.flooding.specs.Made.{fates_of, brings, Underway, Stands, SaysIn, Tied, SoundFlooding}
 use Rattle.flooding.specs.Pasts.{Further, round_grows}
 use Rattle.flooding.specs.Sits.{seated_stays}
 
@@ -28,7 +27,7 @@ abbrev pub after : FloodingState → List (List (Option ℕ)) → List (List (Op
 after x t d ss w ks = record { cards = x.cards; proposals = t; decisions = d; seats = ss; wire = w; kept = ks }
 
 -- Card q acts in instance k and comes to stage r with the history l.
-pub record Action (x : FloodingState) (t d : List (List (Option ℕ))) (ss : List (List Seat)) (w ks : List (Item Load)) (k q r : ℕ) (g : TiedSeats x k) (l : Past) : Type 0 where
+pub record Action (x : FloodingState) (t d : List (List (Option ℕ))) (ss : List (List Seat)) (w ks : List (Item Load)) (k q r : ℕ) (g : Tied x k) (l : Past) : Type 0 where
   pub seats_stay : (j p : ℕ) → Elsewhere k q j p → seat_in ss j p ≡ seat_in x.seats j p
   pub decisions_stay : (j p : ℕ) → Elsewhere k q j p → ballot_in d j p ≡ ballot_in x.decisions j p
   pub proposals_stay : (j p : ℕ) → Elsewhere k q j p → ballot_in t j p ≡ ballot_in x.proposals j p
@@ -37,18 +36,18 @@ pub record Action (x : FloodingState) (t d : List (List (Option ℕ))) (ss : Lis
   pub moved : Further g.past l q r
   pub stands : Stands x.cards.count l t k q (ballot_in d k q) (seat_in ss k q)
   pub items : AllByRecursion (Underway x.cards) w
-  pub wire_true : AllByRecursion (SaysIn x.cards.count l k) w
-  pub wire_others : (j : ℕ) → (j ≢ k) → (o : TiedSeats x j) → AllByRecursion (SaysIn x.cards.count o.past j) w
+  pub wire_says : AllByRecursion (SaysIn x.cards.count l k) w
+  pub wire_others : (j : ℕ) → (j ≢ k) → (o : Tied x j) → AllByRecursion (SaysIn x.cards.count o.past j) w
   pub wire_stays : (j s a b : ℕ) → list_any (brings j s a b) x.wire ≡ true → list_any (brings j s a b) w ≡ true
-  pub kept_true : AllByRecursion (SaysIn x.cards.count l k) ks
-  pub kept_others : (j : ℕ) → (j ≢ k) → (o : TiedSeats x j) → AllByRecursion (SaysIn x.cards.count o.past j) ks
+  pub kept_says : AllByRecursion (SaysIn x.cards.count l k) ks
+  pub kept_others : (j : ℕ) → (j ≢ k) → (o : Tied x j) → AllByRecursion (SaysIn x.cards.count o.past j) ks
   -- all stays kept but what was kept for it and the round that it comes to
   pub kept_stays : (j s a b : ℕ) → ((j ≡ k) × (s ≡ r) × (b ≡ q) → ⊥) → list_any (brings j s a b) x.kept ≡ true → list_any (brings j s a b) ks ≡ true
   -- on entering a round it sends to all, and takes in what was kept
   pub sent : g.past.round q < r → r ≤ x.cards.count → (b : ℕ) → b < x.cards.count → (b ≢ q) → crashed_in x.cards b ≡ false → list_any (brings k r q b) w ≡ true
   pub taken : g.past.round q < r → r ≤ x.cards.count → (a : ℕ) → a < x.cards.count → crashed_in x.cards a ≡ false → list_any (brings k r a q) x.kept ≡ true → l.counted q r a ≡ true
 
-module _ (x : FloodingState) (t d : List (List (Option ℕ))) (ss : List (List Seat)) (w ks : List (Item Load)) (k q r : ℕ) (g : TiedSeats x k) (l : Past) (a : Action x t d ss w ks k q r g l) where
+module _ (x : FloodingState) (t d : List (List (Option ℕ))) (ss : List (List Seat)) (w ks : List (Item Load)) (k q r : ℕ) (g : Tied x k) (l : Past) (a : Action x t d ss w ks k q r g l) where
   proposal_grows : (j s : ℕ) (o : Option ℕ) → proposal_of x.proposals j o ≡ Some s → proposal_of t j o ≡ Some s
   proposal_grows j s None e = e
   proposal_grows j s (Some p) e =
@@ -70,14 +69,14 @@ module _ (x : FloodingState) (t d : List (List (Option ℕ))) (ss : List (List S
         decided = λ v i. ((u.decided v i).0, proposal_grows j v _ (u.decided v i).1);
       }))
 
-  others_tied : (j : ℕ) → (j ≢ k) → TiedSeats x j → TiedSeats (after x t d ss w ks) j
+  others_tied : (j : ℕ) → (j ≢ k) → Tied x j → Tied (after x t d ss w ks) j
   others_tied j e o =
       record {
         past = o.past;
         history = o.history;
         stands = λ p b. elsewhere_stands o.past j p (λ i. e i.0) (o.stands p b);
-        wire_true = a.wire_others j e o;
-        kept_true = a.kept_others j e o;
+        wire_says = a.wire_others j e o;
+        kept_says = a.kept_others j e o;
         due = λ p b s bp bb i up ub o1 m hp hb. ⊎_elim (λ v. inl (a.wire_stays j s p b v)) (⊎_elim (λ v. inr (inl (v.0, a.kept_stays j s p b (λ z. e z.0) v.1))) (λ v. inr (inr v))) (o.due p b s bp bb i up ub o1 m hp hb);
       }
 
@@ -115,7 +114,7 @@ module _ (x : FloodingState) (t d : List (List (Option ℕ))) (ss : List (List S
       (g.due p b s bp bb e up ub begun last old (omega arith)))
       (cases_lt (h.round p) s)
 
-  here_tied : TiedSeats (after x t d ss w ks) k
+  here_tied : Tied (after x t d ss w ks) k
   here_tied =
       let n : ℕ = x.cards.count in
       let h = g.past in
@@ -136,8 +135,8 @@ module _ (x : FloodingState) (t d : List (List (Option ℕ))) (ss : List (List S
               decided = u.decided;
             }))
             (cases_eq p q);
-        wire_true = a.wire_true;
-        kept_true = a.kept_true;
+        wire_says = a.wire_says;
+        kept_says = a.kept_says;
         due = due_after;
       }
 
@@ -161,7 +160,7 @@ action_whole x t d ss w ks k q r l g hk bq st sd sss new a =
       items = a.items;
       tied = λ j hj.
           ⊎_elim
-          (λ (e : j ≡ k). subst (TiedSeats (after x t d ss w ks)) (sym e) (here_tied x t d ss w ks k q r (g.tied k hk) l a))
+          (λ (e : j ≡ k). subst (Tied (after x t d ss w ks)) (sym e) (here_tied x t d ss w ks k q r (g.tied k hk) l a))
           (λ e. others_tied x t d ss w ks k q r (g.tied k hk) l a j e (g.tied j hj))
           (cases_eq j k);
     }

@@ -1,5 +1,5 @@
 -- What a card's moves change, however many it makes, in whichever instances: seats, the wire, and its own decisions where it had none.
-use Rattle.std.specs.Prelude.{◌≡◌, ℕ, zero, suc, ◌+◌, ◌<◌, ◌≤◌, false, cond, ◌&&◌, ◌||◌, List, is_some, Some, None, Option, ◌==◌, ◌≢◌, nat_lt, refl}
+use Rattle.std.specs.Prelude.{◌≡◌, ℕ, zero, suc, ◌<◌, ◌≤◌, false, cond, ◌&&◌, ◌||◌, List, is_some, Some, None, Option, ◌==◌, ◌≢◌, nat_lt, refl}
 use Rattle.std.proofs.Common.{sym, ap, subst, ◌∙◌, ⊎_elim, arith}
 use borrow.Author.Tests.{clash}
 use Rattle.std.proofs.lemmas.Bool.{cases_Bool, cond-false, cond_both, and_parts, eqb-true}
@@ -10,9 +10,9 @@ use Rattle.tables.proofs.Written.{place_written, shaped_after}
 use Rattle.flooding.specs.Seats.{no_seat, seat_in, with_seat, hearing}
 use Rattle.flooding.specs.declared.seats.Seat.{Seat}
 use Rattle.flooding.specs.declared.mail.Load.{Load}
-use Rattle.flooding.specs.Flooding.{FloodingState, flooding_work, enter_on, decide_on, may_move, move_on, step_on, steps_on, settle_on, through_on, keep_on, hear_on, arrive_on}
+use Rattle.flooding.specs.Flooding.{FloodingState, flooding_work, step_on, steps_on, settle_on, through_on, keep_on, hear_on, arrive_on}
 use Rattle.flooding.specs.Mails.{hearing_round}
-use Rattle.flooding.specs.Works.{same_rounds, may_move_means, step_work, step_cards, step_proposals, step_seats}
+use Rattle.flooding.specs.Works.{same_rounds, may_move_means, after_turn, step_work, step_cards, step_proposals, step_seats}
 
 -- A table of decisions, after decisions of card q alone, none of them where one stood.
 pub record DecidedBy (q : ℕ) (t u : List (List (Option ℕ))) : Type 0 where
@@ -85,12 +85,9 @@ decision_decides t k q o g hk hq none =
 step_decides : (x : FloodingState) (k q : ℕ) → Placed x q → k < 32 → DecidedBy q x.decisions (step_on x k q).decisions
 step_decides x k q a hk =
     let same = none_decided q x.decisions a.decisions_shaped in
-    cond_both (may_move x k q) (move_on x k q) x (λ y. DecidedBy q x.decisions y.decisions)
-    (λ m.
-    cond_both (nat_lt (seat_in x.seats k q).round x.cards.count) (enter_on x k q ((seat_in x.seats k q).round + 1) (seat_in x.seats k q).known) (decide_on x k q) (λ y. DecidedBy q x.decisions y.decisions)
-    (λ _. same)
-    (λ _. decision_decides x.decisions k q _ a.decisions_shaped hk (omega (arith, a.few, a.card)) (may_move_means x k q m).1))
-    (λ _. same)
+    after_turn x k q (λ y. DecidedBy q x.decisions y.decisions) (λ _ _. same)
+    (λ m. decision_decides x.decisions k q _ a.decisions_shaped hk (omega (arith, a.few, a.card)) (may_move_means x k q m).1)
+    same
 
 step_moved : (x : FloodingState) (k q : ℕ) → Placed x q → k < 32 → MovedBy q x (step_on x k q)
 step_moved x k q a hk =

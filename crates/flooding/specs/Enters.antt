@@ -25,15 +25,14 @@ use Rattle.flooding.specs.declared.seats.Seat.{Seat}
 use Rattle.flooding.specs.Mail.{is_for, taking_in, stays_kept, still_kept}
 use Rattle.flooding.specs.declared.mail.Load.{Load}
 use Rattle.flooding.specs.Flooding.{FloodingState, seat_on, enter_on, decide_on, proposal_of, may_move}
-use Rattle.flooding.specs.Made.{fates_of, brings, Underway}
-use Rattle.flooding.specs.Sound.{Stands, Says, SaysIn, TiedSeats, SoundFlooding}
-use Rattle.flooding.specs.Counted.{each_counted}
+use Rattle.flooding.specs.Made.{fates_of, brings, Underway, Stands, Says, SaysIn, Tied, SoundFlooding}
+use Rattle.flooding.specs.Counted.{all_decides}
 use Rattle.tables.proofs.Written.{shaped_after}
 use Rattle.flooding.specs.Works.{cell_same, cell_other, may_move_means}
 use Rattle.flooding.specs.Pasts.{Further, no_further, passing_further, then_further, none_beyond}
-use Rattle.flooding.specs.Sits.{Sits, seated_stays, trues_stay, enters, hears, takes_in, hearing_grows, taking_grows, taking_counts}
+use Rattle.flooding.specs.Sits.{Sits, seated_stays, all_say_stays, enters, hears, takes_in, hearing_grows, taking_grows, taking_counts}
 use Rattle.flooding.specs.Actions.{Elsewhere, after, action_whole}
-use Rattle.flooding.specs.Leaves.{brings_parts}
+use Rattle.flooding.specs.Leaves.{brings_parts, brings_itself}
 
 -- A card that sits in a round and has not decided stands there.
 sits_stand : (n : ℕ) (f : Fates) (h : Past) (t : List (List (Option ℕ))) (k q r : ℕ) (d : Option ℕ) (s : Seat) (a : Sits n f h q r s) → is_some d ≡ false → is_some (ballot_in t k q) ≡ true → 1 ≤ r → has s.counted q ≡ true
@@ -64,7 +63,7 @@ module _ (x : FloodingState) (k q : ℕ) (g : SoundFlooding x) (hk : k < 32) (bq
   abbrev n : ℕ
   n = x.cards.count
 
-  abbrev tie : TiedSeats x k
+  abbrev tie : Tied x k
   tie = g.tied k hk
 
   six : q < 6
@@ -102,11 +101,11 @@ module _ (x : FloodingState) (k q : ℕ) (g : SoundFlooding x) (hk : k < 32) (bq
         stands = subst (Stands n a.past x.proposals k q (ballot_in x.decisions k q)) (sym same)
             (sits_stand n (fates_of c) h x.proposals k q r (ballot_in x.decisions k q) s' a undecided (u.proposed ∙ lt-ltb 0 r begun) begun (hearing_grows c q y.from y.load.known s q (u.self_counted begun)));
         items = g.items;
-        wire_true = trues_stay n h a.past q r k x.wire a.moved tie.wire_true;
-        wire_others = λ j _ o. o.wire_true;
+        wire_says = all_say_stays n h a.past q r k x.wire a.moved tie.wire_says;
+        wire_others = λ j _ o. o.wire_says;
         wire_stays = λ j i a b w. w;
-        kept_true = trues_stay n h a.past q r k x.kept a.moved tie.kept_true;
-        kept_others = λ j _ o. o.kept_true;
+        kept_says = all_say_stays n h a.past q r k x.kept a.moved tie.kept_says;
+        kept_others = λ j _ o. o.kept_says;
         kept_stays = λ j i a b _ w. w;
         sent = λ i. absurd (omega (arith, in_round));
         taken = λ i. absurd (omega (arith, in_round));
@@ -129,7 +128,7 @@ module _ (x : FloodingState) (k q : ℕ) (g : SoundFlooding x) (hk : k < 32) (bq
         let wire : List (Item Load) = x.wire ++ sent c q load n in
         let rest : List (Item Load) = still_kept k r q x.kept in
         let g₁ = shaped_after x.seats k q s₀ g.seats_shaped hk in
-        let kept = trues_stay n h l q r k x.kept m tie.kept_true in
+        let kept = all_say_stays n h l q r k x.kept m tie.kept_says in
         let a : Sits n (fates_of c) l q r s = takes_in c l q r g.sound.few bq up begun k s₀ x.kept kept (enters c l q r g.sound.few bq up begun known i m.now last none knew fits) in
         let moved = then_further h l a.past q r m a.moved in
         let own : has s₀.counted q ≡ true = has_added 0 q q ∙ or_right (has 0 q) _ (and_from _ _ (lt-ltb q 32 (omega (arith, six))) (eq-eqb q q refl)) in
@@ -148,8 +147,8 @@ module _ (x : FloodingState) (k q : ℕ) (g : SoundFlooding x) (hk : k < 32) (bq
           stands = subst (Stands n a.past t k q (ballot_in x.decisions k q)) (sym same)
               (sits_stand n (fates_of c) l t k q r (ballot_in x.decisions k q) s a undecided there begun (taking_grows c q k s₀ x.kept q own));
           items = All-append (Underway c) x.wire (sent c q load n) g.items (all_sent_are (Underway c) c q load n (λ b l e. record { instance_fits = hk; sender = bq; receiver = l; up = (to b l e).0 }));
-          wire_true = All-append (SaysIn n a.past k) x.wire (sent c q load n)
-              (trues_stay n h a.past q r k x.wire moved tie.wire_true)
+          wire_says = All-append (SaysIn n a.past k) x.wire (sent c q load n)
+              (all_say_stays n h a.past q r k x.wire moved tie.wire_says)
               (all_sent_are (SaysIn n a.past k) c q load n
               (λ b l' e _. record {
                 sender = bq;
@@ -161,15 +160,14 @@ module _ (x : FloodingState) (k q : ℕ) (g : SoundFlooding x) (hk : k < 32) (bq
                 knew = λ z. knew z ∙ sym (a.moved.knew_stays q r z (omega (arith, m.now)));
                 fits = fits;
               }));
-          wire_others = λ j d o. All-append (SaysIn n o.past j) x.wire (sent c q load n) o.wire_true
+          wire_others = λ j d o. All-append (SaysIn n o.past j) x.wire (sent c q load n) o.wire_says
               (all_sent_are (SaysIn n o.past j) c q load n (λ b l' e f. absurd (d (sym f))));
           wire_stays = λ j i p b w. list_any-append (brings j i p b) x.wire (sent c q load n) ∙ or_left _ _ w;
-          kept_true = all_left (SaysIn n a.past k) (SaysIn n a.past k) (stays_kept k r q) x.kept (λ y u _. u) (trues_stay n h a.past q r k x.kept moved tie.kept_true);
-          kept_others = λ j _ o. all_left (SaysIn n o.past j) (SaysIn n o.past j) (stays_kept k r q) x.kept (λ y u _. u) o.kept_true;
+          kept_says = all_left (SaysIn n a.past k) (SaysIn n a.past k) (stays_kept k r q) x.kept (λ y u _. u) (all_say_stays n h a.past q r k x.kept moved tie.kept_says);
+          kept_others = λ j _ o. all_left (SaysIn n o.past j) (SaysIn n o.past j) (stays_kept k r q) x.kept (λ y u _. u) o.kept_says;
           kept_stays = λ j i p b d. any_left (brings j i p b) (stays_kept k r q) x.kept (λ y w. others_stay k r q j i p b y d w);
           sent = λ _ _ b l' d ub. list_any-append (brings k r q b) x.wire (sent c q load n)
-              ∙ or_right (list_any (brings k r q b) x.wire) _ (any_sent (brings k r q b) c q load n b l' (and_from _ _ (not_from_false _ ub) (not_from_false _ (ne_eqb b q d)))
-              (and_from _ _ (and_from _ _ (eq-eqb k k refl) (eq-eqb r r refl)) (and_from _ _ (eq-eqb q q refl) (eq-eqb b b refl))));
+              ∙ or_right (list_any (brings k r q b) x.wire) _ (any_sent (brings k r q b) c q load n b l' (and_from _ _ (not_from_false _ ub) (not_from_false _ (ne_eqb b q d))) (brings_itself (record { load = load; from = q; to = b })));
           taken = λ _ _ p bp ua w. ap (λ j. a.past.counted q j p) (sym a.here) ∙ sym (a.seated.counts p bp) ∙ taking_counts c q k r s₀ x.kept p refl (omega (arith, g.sound.few)) (trusts p ua) w;
         }) in
         subst
@@ -208,7 +206,7 @@ module _ (x : FloodingState) (k q : ℕ) (g : SoundFlooding x) (hk : k < 32) (bq
         all = λ y b u.
             ap (λ i. now.counted q i y) stage_is_round
             ∙ sym ((t.stands q bq).seated.counts y b)
-            ∙ ⊎_elim (λ e. absurd (both_ways (suspects_in c q y) u e)) (λ e. e) (or_cases (suspects_in c q y) (has s.counted y) (each_counted c q s c.count y b o.3));
+            ∙ ⊎_elim (λ e. absurd (both_ways (suspects_in c q y) u e)) (λ e. e) (or_cases (suspects_in c q y) (has s.counted y) ((all_decides c q s c.count).0 o.3 y b));
       })
 
   next_further : (r : ℕ) → suc round ≡ r → Further now next q r
@@ -287,11 +285,11 @@ module _ (x : FloodingState) (k q : ℕ) (g : SoundFlooding x) (hk : k < 32) (bq
             decided = λ v i. (last, sym same ∙ i);
           };
           items = g.items;
-          wire_true = trues_stay n now next q (suc n) k x.wire moved t.wire_true;
-          wire_others = λ j _ i. i.wire_true;
+          wire_says = all_say_stays n now next q (suc n) k x.wire moved t.wire_says;
+          wire_others = λ j _ i. i.wire_says;
           wire_stays = λ j i a b w. w;
-          kept_true = trues_stay n now next q (suc n) k x.kept moved t.kept_true;
-          kept_others = λ j _ i. i.kept_true;
+          kept_says = all_say_stays n now next q (suc n) k x.kept moved t.kept_says;
+          kept_others = λ j _ i. i.kept_says;
           kept_stays = λ j i a b _ w. w;
           sent = λ _ i. absurd (omega arith);
           taken = λ _ i. absurd (omega arith);

@@ -7,7 +7,7 @@ use Rattle.std.proofs.Math.Pow.{pow-lt}
 use Rattle.std.specs.List.{slice_get, AllByRecursion, list_any}
 use Rattle.std.proofs.ByRecursion.{All-push, All-weaker}
 use Rattle.std.proofs.lemmas.List.Folds.{list_any-append}
-use Rattle.std.proofs.lemmas.Bool.{and_parts, and_from, and_left, and_right, or_parts, or_cases, or_left, or_right, eqb-true, eqb-false, eq-eqb, ne_eqb, lt-ltb, ltb-true, ltb-false, not-true, not_from_false, cases_Bool, cases_eq, cond-true, cond-false, cond_both, both_ways}
+use Rattle.std.proofs.lemmas.Bool.{and_parts, and_left, and_right, or_parts, or_cases, or_left, or_right, eqb-true, eqb-false, ne_eqb, lt-ltb, ltb-true, ltb-false, not-true, not_from_false, cases_Bool, cases_eq, cond-true, cond-false, cond_both, both_ways}
 use Rattle.notes.specs.Sets.{has, added}
 use Rattle.notes.proofs.Bits.{has_none, has_added}
 use Rattle.parts.specs.Refusals.{propose_answer, carry_answer, lose_answer, crash_answer, suspect_answer}
@@ -28,8 +28,7 @@ use Rattle.flooding.specs.Seats.{no_seat, new_seats, seat_in, with_seat, hearing
 use Rattle.flooding.specs.declared.seats.Seat.{Seat}
 use Rattle.flooding.specs.declared.mail.Load.{Load}
 use Rattle.flooding.specs.Flooding.{FloodingState, flooding_work, seen, new_flooding, put_forward, enter_on, keep_on, hear_on, arrive_on, arrive_by, settle_on, propose_on, carry_on, lose_on, crash_on, doubt_on, suspect_on, may_move}
-use Rattle.flooding.specs.Made.{fates_of, brings, Underway}
-use Rattle.flooding.specs.Sound.{Stands, Says, SaysIn, TiedSeats, SoundFlooding, SettledFlooding}
+use Rattle.flooding.specs.Made.{fates_of, brings, Underway, Stands, Says, SaysIn, Tied, SoundFlooding, MadeFlooding}
 use Rattle.flooding.specs.Mails.{hearing_round}
 use Rattle.tables.proofs.Written.{new_shaped, shaped_after}
 use Rattle.flooding.specs.Works.{cell_same, cell_other}
@@ -38,17 +37,17 @@ use Rattle.flooding.specs.Sits.{hearing_counts}
 use Rattle.flooding.specs.Actions.{Elsewhere, here_or_elsewhere}
 use Rattle.flooding.specs.Enters.{in_round, hear_whole, enters_whole}
 use Rattle.flooding.specs.Steps.{seat_stays, enter_stays, settles, goes_through}
-use Rattle.flooding.specs.Leaves.{brings_parts, Accounted, leave_whole}
+use Rattle.flooding.specs.Leaves.{brings_parts, brings_itself, Accounted, leave_whole}
 
 -- A new one.
 
-pub new_seat : (k p : ℕ) → seat_in new_seats k p ≡ no_seat
+new_seat : (k p : ℕ) → seat_in new_seats k p ≡ no_seat
 new_seat k p = same_rows 32 6 k p no_seat
 
-pub new_ballot : (k p : ℕ) → ballot_in new_ballots k p ≡ None
+new_ballot : (k p : ℕ) → ballot_in new_ballots k p ≡ None
 new_ballot k p = same_rows 32 6 k p None
 
-pub new_stands : (n k p : ℕ) → Stands n beginning new_ballots k p (ballot_in new_ballots k p) (seat_in new_seats k p)
+new_stands : (n k p : ℕ) → Stands n beginning new_ballots k p (ballot_in new_ballots k p) (seat_in new_seats k p)
 new_stands n k p =
     subst (λ o. Stands n beginning new_ballots k p o (seat_in new_seats k p)) (sym (new_ballot k p))
     (subst (Stands n beginning new_ballots k p None) (sym (new_seat k p))
@@ -60,12 +59,12 @@ new_stands n k p =
       decided = λ v e. absurd (clash (ap is_some e));
     }))
 
-pub new_settled : (n k p : ℕ) → may_move (new_flooding n) k p ≡ false
+new_settled : (n k p : ℕ) → may_move (new_flooding n) k p ≡ false
 new_settled n k p =
     let c = new_cards n in
     and_right (nat_lt p c.count) _ (and_right (not (is_some (ballot_in new_ballots k p))) _ (and_left (nat_lt 0 (seat_in new_seats k p).round) (all_counted c p (seat_in new_seats k p) c.count) (ap (λ (s : Seat). ltb 0 s.round) (new_seat k p))))
 
-pub new_made : (n : ℕ) → SettledFlooding (new_flooding n)
+pub new_made : (n : ℕ) → MadeFlooding (new_flooding n)
 new_made n =
     let c = new_cards n in
     record {
@@ -83,8 +82,8 @@ new_made n =
               past = beginning;
               history = (moves_make_histories c.count).beginning_is (fates_of c) (λ p y. same_rows 6 6 p y false);
               stands = λ p b. new_stands c.count k p;
-              wire_true = tt;
-              kept_true = tt;
+              wire_says = tt;
+              kept_says = tt;
               due = λ p q r bp bq d up uq o l h m. absurd (omega arith);
             };
       };
@@ -93,7 +92,7 @@ new_made n =
 
 -- A proposal and an item that is heard: the card moves as often as it can, and no other can.
 
-settle_made : (x : FloodingState) (k q : ℕ) → SoundFlooding x → k < 32 → Running x.cards q → ((j p : ℕ) → j < 32 → crashed_in x.cards p ≡ false → Elsewhere k q j p → may_move x j p ≡ false) → SettledFlooding (settle_on x k q)
+settle_made : (x : FloodingState) (k q : ℕ) → SoundFlooding x → k < 32 → Running x.cards q → ((j p : ℕ) → j < 32 → crashed_in x.cards p ≡ false → Elsewhere k q j p → may_move x j p ≡ false) → MadeFlooding (settle_on x k q)
 settle_made x k q g hk u others =
     let s = settles x k q g hk u in
     record {
@@ -105,7 +104,7 @@ settle_made x k q g hk u others =
           (here_or_elsewhere k q j p);
     }
 
-pub propose_made : (x : FloodingState) (k p s : ℕ) → SettledFlooding x → s < 2 ^ 32 → propose_answer (seen x) k p s ≡ Ok tt → SettledFlooding (propose_on x k p s)
+pub propose_made : (x : FloodingState) (k p s : ℕ) → MadeFlooding x → s < 2 ^ 32 → propose_answer (seen x) k p s ≡ Ok tt → MadeFlooding (propose_on x k p s)
 propose_made x k p s m small h =
     let g = m.whole in
     let f = propose_accepted (seen x) k p s h in
@@ -139,7 +138,7 @@ propose_made x k p s m small h =
 
 -- An item that is carried.
 
-module _ (x : FloodingState) (i : ℕ) (y : Item Load) (m : SettledFlooding x) (at : slice_get x.wire i ≡ Some y) where
+module _ (x : FloodingState) (i : ℕ) (y : Item Load) (m : MadeFlooding x) (at : slice_get x.wire i ≡ Some y) where
   abbrev k : ℕ
   k = y.load.instance
 
@@ -152,30 +151,30 @@ module _ (x : FloodingState) (i : ℕ) (y : Item Load) (m : SettledFlooding x) (
   under : Underway x.cards y
   under = all_nth (Underway x.cards) x.wire i y g.items at
 
-  says : (j : ℕ) (t : TiedSeats x j) → y.load.instance ≡ j → Says x.cards.count t.past y
-  says j t = all_nth (SaysIn x.cards.count t.past j) x.wire i y t.wire_true at
+  says : (j : ℕ) (t : Tied x j) → y.load.instance ≡ j → Says x.cards.count t.past y
+  says j t = all_nth (SaysIn x.cards.count t.past j) x.wire i y t.wire_says at
 
-  left : Accounted x x.kept k y.load.round y.from q → SettledFlooding (lose_on x i)
-  left a = record { whole = leave_whole x i y x.kept g at (λ j t. t.kept_true) (λ j r p b w. w) a; settled = m.settled }
+  left : Accounted x x.kept k y.load.round y.from q → MadeFlooding (lose_on x i)
+  left a = record { whole = leave_whole x i y x.kept g at (λ j t. t.kept_says) (λ j r p b w. w) a; settled = m.settled }
 
-  stage : (t : TiedSeats x k) → is_some (ballot_in x.decisions k q) ≡ false → t.past.round q ≡ (seat_in x.seats k q).round
+  stage : (t : Tied x k) → is_some (ballot_in x.decisions k q) ≡ false → t.past.round q ≡ (seat_in x.seats k q).round
   stage t u = (t.stands q under.receiver).stage ∙ cond-false _ _ _ u
 
-  kept_made : is_some (ballot_in x.decisions k q) ≡ false → (seat_in x.seats k q).round < y.load.round → SettledFlooding (keep_on (lose_on x i) y)
+  kept_made : is_some (ballot_in x.decisions k q) ≡ false → (seat_in x.seats k q).round < y.load.round → MadeFlooding (keep_on (lose_on x i) y)
   kept_made u l =
       record {
         whole = leave_whole x i y (x.kept ++ y ∷ []) g at
-            (λ j t. All-push (SaysIn x.cards.count t.past j) x.kept y t.kept_true (says j t))
+            (λ j t. All-push (SaysIn x.cards.count t.past j) x.kept y t.kept_says (says j t))
             (λ j r p b w. list_any-append (brings j r p b) x.kept (y ∷ []) ∙ or_left _ _ w)
             (λ t up uq h. inl (
               omega (arith, stage t u),
               list_any-append (brings k y.load.round y.from q) x.kept (y ∷ [])
-                  ∙ or_right (list_any (brings k y.load.round y.from q) x.kept) _ (or_left _ false (and_from _ _ (and_from _ _ (eq-eqb k k refl) (eq-eqb y.load.round y.load.round refl)) (and_from _ _ (eq-eqb y.from y.from refl) (eq-eqb q q refl)))),
+                  ∙ or_right (list_any (brings k y.load.round y.from q) x.kept) _ (or_left _ false (brings_itself y)),
             ));
         settled = m.settled;
       }
 
-  heard_made : is_some (ballot_in x.decisions k q) ≡ false → suspects_in x.cards q y.from ≡ false → (seat_in x.seats k q).round ≡ y.load.round → SettledFlooding (settle_on (hear_on (lose_on x i) y) k q)
+  heard_made : is_some (ballot_in x.decisions k q) ≡ false → suspects_in x.cards q y.from ≡ false → (seat_in x.seats k q).round ≡ y.load.round → MadeFlooding (settle_on (hear_on (lose_on x i) y) k q)
   heard_made u trusts e =
       let c = x.cards in
       let w = under in
@@ -188,11 +187,11 @@ module _ (x : FloodingState) (i : ℕ) (y : Item Load) (m : SettledFlooding x) (
       ap (λ (v : Seat). has v.counted y.from) same ∙ hearing_counts c q y.from y.load.known s (omega (arith, w.sender, g.sound.few)) trusts in
       let heard : SoundFlooding (hear_on x y) = hear_whole x k q g hk w.receiver w.up u y (says k (g.tied k hk) refl) refl (sym e) in
       let whole : SoundFlooding (hear_on (lose_on x i) y) =
-      leave_whole (hear_on x y) i y x.kept heard at (λ j t. t.kept_true) (λ j r p b v. v)
+      leave_whole (hear_on x y) i y x.kept heard at (λ j t. t.kept_says) (λ j r p b v. v)
       (λ t up uq h. inr (ap (λ r. t.past.counted q r y.from) (sym round) ∙ sym ((t.stands q w.receiver).seated.counts y.from w.sender) ∙ counted)) in
       settle_made (hear_on (lose_on x i) y) k q whole hk (w.receiver, w.up) (λ j p hj up d. seat_stays x k q j p s' g hk w.receiver d ∙ m.settled j p hj up)
 
-  arrive_made : SettledFlooding (arrive_on (lose_on x i) y)
+  arrive_made : MadeFlooding (arrive_on (lose_on x i) y)
   arrive_made =
       let c = x.cards in
       let s : Seat = seat_in x.seats k q in
@@ -200,7 +199,7 @@ module _ (x : FloodingState) (i : ℕ) (y : Item Load) (m : SettledFlooding x) (
       let d : Bool = suspects_in c q y.from in
       let x' = lose_on x i in
       let heard = settle_on (hear_on x' y) k q in
-      cond_both (b || d) x' (cond (nat_lt s.round y.load.round) (keep_on x' y) (cond (s.round == y.load.round) heard x')) SettledFlooding
+      cond_both (b || d) x' (cond (nat_lt s.round y.load.round) (keep_on x' y) (cond (s.round == y.load.round) heard x')) MadeFlooding
       (λ e. left (λ t up uq h.
       ⊎_elim
       (λ z. absurd (omega (arith, (t.stands q under.receiver).stage ∙ cond-true _ _ _ z, (says k t refl).last)))
@@ -208,30 +207,30 @@ module _ (x : FloodingState) (i : ℕ) (y : Item Load) (m : SettledFlooding x) (
       (or_cases b d e)))
       (λ e.
       let u = or_parts b d e in
-      cond_both (nat_lt s.round y.load.round) (keep_on x' y) (cond (s.round == y.load.round) heard x') SettledFlooding
+      cond_both (nat_lt s.round y.load.round) (keep_on x' y) (cond (s.round == y.load.round) heard x') MadeFlooding
       (λ l. kept_made u.0 (ltb-true _ _ l))
-      (λ l. cond_both (s.round == y.load.round) heard x' SettledFlooding
+      (λ l. cond_both (s.round == y.load.round) heard x' MadeFlooding
       (λ z. heard_made u.0 u.1 (eqb-true _ _ z))
       (λ z. left (λ t up uq h. absurd (eqb-false s.round y.load.round z (omega (arith, ltb-false _ _ l, stage t u.0)))))))
 
-pub carry_made : (x : FloodingState) (i : ℕ) → SettledFlooding x → carry_answer (seen x).net i ≡ Ok tt → SettledFlooding (carry_on x i)
+pub carry_made : (x : FloodingState) (i : ℕ) → MadeFlooding x → carry_answer (seen x).net i ≡ Ok tt → MadeFlooding (carry_on x i)
 carry_made x i m h =
     let y = carried_item x.cards x.wire (flooding_work x) i h in
-    subst (λ o. SettledFlooding (arrive_by (lose_on x i) o)) (sym y.1) (arrive_made x i y.0 m y.1)
+    subst (λ o. MadeFlooding (arrive_by (lose_on x i) o)) (sym y.1) (arrive_made x i y.0 m y.1)
 
 -- A loss: what is lost was sent by a crashed card.
-pub lose_made : (x : FloodingState) (i : ℕ) → SettledFlooding x → lose_answer (seen x).net i ≡ Ok tt → SettledFlooding (lose_on x i)
+pub lose_made : (x : FloodingState) (i : ℕ) → MadeFlooding x → lose_answer (seen x).net i ≡ Ok tt → MadeFlooding (lose_on x i)
 lose_made x i m h =
     let y = lost_item x.cards x.wire (flooding_work x) i h in
     left x i y.0 m y.1 (λ t up uq l. absurd (both_ways (crashed_in x.cards y.0.from) up y.3))
 
 -- A crash and a suspicion.
 
-pub same_counted : (c e : CardState) (q : ℕ) (s : Seat) (m : ℕ) → ((y : ℕ) → suspects_in e q y ≡ suspects_in c q y) → all_counted e q s m ≡ all_counted c q s m
+same_counted : (c e : CardState) (q : ℕ) (s : Seat) (m : ℕ) → ((y : ℕ) → suspects_in e q y ≡ suspects_in c q y) → all_counted e q s m ≡ all_counted c q s m
 same_counted c e q s zero h = refl
 same_counted c e q s (suc m) h = cc (same_counted c e q s m h, h m)
 
-pub crash_moves : (x : FloodingState) (p k q : ℕ) → may_move (crash_on x p) k q ≡ may_move x k q
+crash_moves : (x : FloodingState) (p k q : ℕ) → may_move (crash_on x p) k q ≡ may_move x k q
 crash_moves x p k q =
     ap (λ w. nat_lt q x.cards.count && (not (is_some (ballot_in x.decisions k q)) && (nat_lt 0 (seat_in x.seats k q).round && w)))
     (same_counted x.cards (with_crash x.cards p) q (seat_in x.seats k q) x.cards.count (λ y. refl))
@@ -243,7 +242,7 @@ module _ (x : FloodingState) (p : ℕ) (g : SoundCards x.cards) (card : p < x.ca
   abbrev e : CardState
   e = with_crash x.cards p
 
-  pub crash_later : Later (fates_of c) (fates_of e)
+  crash_later : Later (fates_of c) (fates_of e)
   crash_later =
       record {
         crashed_stay = λ q o. not_from_false _ (up_before c p q g card (not-true _ o)).1;
@@ -251,18 +250,18 @@ module _ (x : FloodingState) (p : ℕ) (g : SoundCards x.cards) (card : p < x.ca
         new_crashed = λ q y o. inl o;
       }
 
-  pub crash_items : AllByRecursion (Underway c) x.wire → AllByRecursion (Underway e) (without_to p x.wire)
+  crash_items : AllByRecursion (Underway c) x.wire → AllByRecursion (Underway e) (without_to p x.wire)
   crash_items =
       all_left (Underway c) (Underway e) (elsewhere p) x.wire
       (λ y u o. record { instance_fits = u.instance_fits; sender = u.sender; receiver = u.receiver; up = crash_more c p y.to g card ∙ ap (λ b. b || crashed_in c y.to) (not-true _ o) ∙ u.up })
 
   -- What is under way to a card that runs afterwards stays.
-  pub crash_leaves : (k r a q : ℕ) → crashed_in e q ≡ false → list_any (brings k r a q) x.wire ≡ true → list_any (brings k r a q) (without_to p x.wire) ≡ true
+  crash_leaves : (k r a q : ℕ) → crashed_in e q ≡ false → list_any (brings k r a q) x.wire ≡ true → list_any (brings k r a q) (without_to p x.wire) ≡ true
   crash_leaves k r a q u =
       any_left (brings k r a q) (elsewhere p) x.wire
       (λ y b. not_from_false _ (ne_eqb y.to p (λ z. eqb-false q p (up_before c p q g card u).0 (sym (brings_parts k r a q y b).1 ∙ z))))
 
-pub crash_made : (x : FloodingState) (p : ℕ) → SettledFlooding x → crash_answer (seen x).net p ≡ Ok tt → SettledFlooding (crash_on x p)
+pub crash_made : (x : FloodingState) (p : ℕ) → MadeFlooding x → crash_answer (seen x).net p ≡ Ok tt → MadeFlooding (crash_on x p)
 crash_made x p m h =
     let g = m.whole in
     let s = g.sound in
@@ -285,15 +284,15 @@ crash_made x p m h =
               past = t.past;
               history = (moves_make_histories c.count).later_keeps (fates_of c) (fates_of (with_crash c p)) t.past t.history (crash_later x p s f.0);
               stands = t.stands;
-              wire_true = all_left (SaysIn c.count t.past k) (SaysIn c.count t.past k) (elsewhere p) x.wire (λ y e _. e) t.wire_true;
-              kept_true = t.kept_true;
+              wire_says = all_left (SaysIn c.count t.past k) (SaysIn c.count t.past k) (elsewhere p) x.wire (λ y e _. e) t.wire_says;
+              kept_says = t.kept_says;
               due = λ a q r ba bq d ua uq o n ha hq. ⊎_elim (λ w. inl (crash_leaves x p s f.0 k r a q uq w)) (λ e. inr e) (t.due a q r ba bq d (before a ua).1 (before q uq).1 o n ha hq);
             };
       };
       settled = λ k q l u. crash_moves x p k q ∙ m.settled k q l (before q u).1;
     }
 
-pub suspect_made : (x : FloodingState) (q p : ℕ) → SettledFlooding x → suspect_answer (seen x).net q p ≡ Ok tt → SettledFlooding (suspect_on x q p)
+pub suspect_made : (x : FloodingState) (q p : ℕ) → MadeFlooding x → suspect_answer (seen x).net q p ≡ Ok tt → MadeFlooding (suspect_on x q p)
 suspect_made x q p m h =
     let g = m.whole in
     let f = suspect_accepted (seen x).net q p h in
@@ -326,8 +325,8 @@ suspect_made x q p m h =
             past = t.past;
             history = (moves_make_histories c.count).later_keeps (fates_of c) (fates_of e) t.past t.history later;
             stands = t.stands;
-            wire_true = t.wire_true;
-            kept_true = t.kept_true;
+            wire_says = t.wire_says;
+            kept_says = t.kept_says;
             due = t.due;
           };
     } in

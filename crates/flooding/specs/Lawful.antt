@@ -1,6 +1,6 @@
 -- What is certain of every flooding that is made: decisions were proposed, are equal, and come when it is quiet.
-use Rattle.std.specs.List.{AllByRecursion, list_any}
-use Rattle.std.specs.Prelude.{◌≡◌, ℕ, zero, suc, ◌^◌, ◌<◌, ◌≤◌, true, false, ◌⊎◌, List, is_some, Some, None, Option, ◌≢◌}
+use Rattle.std.specs.List.{list_any}
+use Rattle.std.specs.Prelude.{◌≡◌, ℕ, zero, suc, ◌<◌, ◌≤◌, true, false, ◌⊎◌, List, is_some, Some, None, Option, ◌≢◌}
 use Rattle.std.proofs.Common.{sym, ap, subst, ◌∙◌, inl, ⊎_elim, arith}
 use borrow.Author.Tests.{clash}
 use Rattle.std.proofs.ByRecursion.{All-map, All-weaker}
@@ -11,41 +11,32 @@ use Rattle.notes.proofs.Bits.{same_sets}
 use Rattle.parts.specs.Views.{Runs, Quiet}
 use Rattle.parts.specs.Deciding.{Lawful}
 use Rattle.parts.proofs.Options.{some_held}
-use Rattle.cards.specs.Cards.{crashed_in, SoundCards}
-use Rattle.tables.specs.Tables.{Shaped, ballot_in}
+use Rattle.cards.specs.Cards.{crashed_in}
+use Rattle.tables.specs.Tables.{ballot_in}
 use Rattle.wire.specs.Wires.{senders}
 use Rattle.tables.proofs.Written.{instance_below}
 use Rattle.cards.proofs.Nets.{lawful_net}
 use Rattle.wire.proofs.Wires.{nothing_left, length_senders}
-use Rattle.histories.specs.Histories.{Past, History, Left}
+use Rattle.histories.specs.Histories.{Left}
 use Rattle.histories.specs.Moves.{heard_of}
 use Rattle.histories.proofs.Agrees.{agreement}
 use Rattle.histories.proofs.Heard.{heard_knew}
 use Rattle.flooding.specs.Seats.{seat_in, accounted_for}
 use Rattle.flooding.specs.declared.seats.Seat.{Seat}
 use Rattle.flooding.specs.Flooding.{FloodingState, flooding_work, seen, proposal_of, may_move}
-use Rattle.flooding.specs.Made.{fates_of, brings, Underway}
-use Rattle.flooding.specs.Sound.{Stands, SettledFlooding}
-use Rattle.flooding.specs.Counted.{all_from_each}
+use Rattle.flooding.specs.Made.{fates_of, brings, Underway, Tied, MadeFlooding}
+use Rattle.flooding.specs.Counted.{all_decides}
 
-pub some_proposal : (t : List (List (Option ℕ))) (k s : ℕ) (o : Option ℕ) → proposal_of t k o ≡ Some s → (q : ℕ) × (ballot_in t k q ≡ Some s)
+some_proposal : (t : List (List (Option ℕ))) (k s : ℕ) (o : Option ℕ) → proposal_of t k o ≡ Some s → (q : ℕ) × (ballot_in t k q ≡ Some s)
 some_proposal t k s None e = absurd (clash (ap is_some e))
 some_proposal t k s (Some q) e = (q, e)
 
--- What of an instance's state the laws rest on: each card stands where a history says, what was sent has not gone astray, and no running card can move.
-pub record Standing (x : FloodingState) (k : ℕ) : Type 0 where
-  pub past : Past
-  pub history : History x.cards.count (fates_of x.cards) past
-  pub stands : (p : ℕ) → p < x.cards.count → Stands x.cards.count past x.proposals k p (ballot_in x.decisions k p) (seat_in x.seats k p)
-  pub deciders : (p : ℕ) → is_some (ballot_in x.decisions k p) ≡ true → p < x.cards.count
-  pub due : (p q r : ℕ) → p < x.cards.count → q < x.cards.count → (q ≢ p) → crashed_in x.cards p ≡ false → crashed_in x.cards q ≡ false
-      → 1 ≤ r → r ≤ x.cards.count → r ≤ past.round p → past.round q ≤ r
-      → (list_any (brings k r p q) x.wire ≡ true) ⊎ (((past.round q < r) × (list_any (brings k r p q) x.kept ≡ true)) ⊎ (past.counted q r p ≡ true))
-  pub settled : (p : ℕ) → p < x.cards.count → crashed_in x.cards p ≡ false → may_move x k p ≡ false
+module _ (x : FloodingState) (k : ℕ) (hk : k < 32) (m : MadeFlooding x) where
+  abbrev g : Tied x k
+  g = m.whole.tied k hk
 
-module _ (x : FloodingState) (k : ℕ) (g : Standing x k) where
   card : (p s : ℕ) → ballot_in x.decisions k p ≡ Some s → p < x.cards.count
-  card p s e = g.deciders p (ap is_some e)
+  card p s e = m.whole.deciders k p (ap is_some e)
 
   decided_stage : (p s : ℕ) → ballot_in x.decisions k p ≡ Some s → g.past.round p ≡ suc x.cards.count
   decided_stage p s e = (g.stands p (card p s e)).stage ∙ cond-true _ _ _ (ap is_some e)
@@ -73,7 +64,7 @@ module _ (x : FloodingState) (k : ℕ) (g : Standing x k) where
   decided_proposed : (p : ℕ) → is_some (ballot_in x.decisions k p) ≡ true → is_some (ballot_in x.proposals k p) ≡ true
   decided_proposed p h =
       let o = some_held (ballot_in x.decisions k p) h in
-      let b = g.deciders p h in
+      let b = m.whole.deciders k p h in
       let t = g.stands p b in
       t.proposed ∙ lt-ltb 0 (seat_in x.seats k p).round (omega (arith, b, (t.decided o.0 o.1).0))
 
@@ -104,8 +95,8 @@ module _ (x : FloodingState) (k : ℕ) (g : Standing x k) where
         (λ v. or_left _ _ (quiet.known p y runs c v))
         (λ v. or_right _ _ (⊎_elim (λ (e : p ≡ y). subst (λ z. has s.counted z ≡ true) e (t.self_counted o)) (λ d. heard y c d v) (cases_eq p y)))
         (cases_Bool (crashed_in x.cards y)) in
-        both_ways (may_move x k p) (g.settled p b u)
-        (and_from _ _ (lt-ltb p n b) (and_from _ _ (not_from_false _ undecided) (and_from _ _ (lt-ltb 0 s.round o) (all_from_each x.cards p s n each))))
+        both_ways (may_move x k p) (m.settled k p hk u)
+        (and_from _ _ (lt-ltb p n b) (and_from _ _ (not_from_false _ undecided) (and_from _ _ (lt-ltb 0 s.round o) ((all_decides x.cards p s n).1 each))))
 
     reach : (r : ℕ) → r ≤ suc x.cards.count → (p : ℕ) → p < x.cards.count → crashed_in x.cards p ≡ false → r ≤ g.past.round p
     reach zero l p b u = omega arith
@@ -125,29 +116,21 @@ module _ (x : FloodingState) (k : ℕ) (g : Standing x k) where
         (λ e. absurd (let z : g.past.round p ≡ (seat_in x.seats k p).round = t.stage ∙ cond-false _ _ _ e in omega (arith, t.seated.in_rounds)))
         (cases_Bool (is_some (ballot_in x.decisions k p)))
 
-pub laws_from : (x : FloodingState) → SoundCards x.cards → Shaped x.proposals → Shaped x.decisions → ((k p : ℕ) → is_some (ballot_in x.proposals k p) ≡ true → p < x.cards.count)
-    → ((k p s : ℕ) → ballot_in x.proposals k p ≡ Some s → (0 < s) × (s < 2 ^ 32)) → AllByRecursion (Underway x.cards) x.wire → ((k : ℕ) → k < 32 → Standing x k) → Lawful (seen x)
-laws_from x sound proposed decided proposers sets items each =
-    record {
-      net = lawful_net x.cards (senders x.wire) (flooding_work x) sound
-          (All-map (λ s. (s < x.cards.count) ⊎ (s ≡ 7)) (λ y. y.from) x.wire (All-weaker (Underway x.cards) (λ y. (y.from < x.cards.count) ⊎ (y.from ≡ 7)) (λ y u. inl u.sender) x.wire items))
-          (omega (arith, length_senders x.wire));
-      instances_below_32 = λ k p h. instance_below x.proposals k p proposed h;
-      proposers_are_cards = proposers;
-      proposals_not_empty = λ k p s h. (sets k p s h).0;
-      proposals_fit_32_bits = λ k p s h. (sets k p s h).1;
-      decided_have_proposed = λ k p h. decided_proposed x k (each k (instance_below x.decisions k p decided h)) p h;
-      decisions_were_proposed = λ k p s h.
-          let g = each k (instance_below x.decisions k p decided (ap is_some h)) in
-          some_proposal x.proposals k s (low (seat_in x.seats k p).known) ((g.stands p (g.deciders p (ap is_some h))).decided s h).1;
-      decisions_equal = λ k p q s t hs ht. same_decisions x k (each k (instance_below x.decisions k p decided (ap is_some hs))) p q s t hs ht;
-      quiet_all_decided = λ q k all p r. all_decided x k (each k (instance_below x.proposals k p proposed (all p r))) q all p r;
-    }
-
-pub lawful : (x : FloodingState) → SettledFlooding x → Lawful (seen x)
+pub lawful : (x : FloodingState) → MadeFlooding x → Lawful (seen x)
 lawful x m =
     let g = m.whole in
-    laws_from x g.sound g.proposals_shaped g.decisions_shaped g.proposers g.proposed_sets g.items
-    (λ k hk.
-    let t = g.tied k hk in
-    record { past = t.past; history = t.history; stands = t.stands; deciders = g.deciders k; due = t.due; settled = λ p b u. m.settled k p hk u })
+    record {
+      net = lawful_net x.cards (senders x.wire) (flooding_work x) g.sound
+          (All-map (λ s. (s < x.cards.count) ⊎ (s ≡ 7)) (λ y. y.from) x.wire (All-weaker (Underway x.cards) (λ y. (y.from < x.cards.count) ⊎ (y.from ≡ 7)) (λ y u. inl u.sender) x.wire g.items))
+          (omega (arith, length_senders x.wire));
+      instances_below_32 = λ k p h. instance_below x.proposals k p g.proposals_shaped h;
+      proposers_are_cards = g.proposers;
+      proposals_not_empty = λ k p s h. (g.proposed_sets k p s h).0;
+      proposals_fit_32_bits = λ k p s h. (g.proposed_sets k p s h).1;
+      decided_have_proposed = λ k p h. decided_proposed x k (instance_below x.decisions k p g.decisions_shaped h) m p h;
+      decisions_were_proposed = λ k p s h.
+          let hk = instance_below x.decisions k p g.decisions_shaped (ap is_some h) in
+          some_proposal x.proposals k s (low (seat_in x.seats k p).known) (((g.tied k hk).stands p (g.deciders k p (ap is_some h))).decided s h).1;
+      decisions_equal = λ k p q s t hs ht. same_decisions x k (instance_below x.decisions k p g.decisions_shaped (ap is_some hs)) m p q s t hs ht;
+      quiet_all_decided = λ q k all p r. all_decided x k (instance_below x.proposals k p g.proposals_shaped (all p r)) m q all p r;
+    }

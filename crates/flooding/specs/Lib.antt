@@ -4,7 +4,6 @@ pub mod Room
 pub mod Enough
 pub mod Flooding
 pub mod Made
-pub mod Sound
 pub mod Keeps
 pub mod Mails
 pub mod Works

@@ -22,8 +22,7 @@ use Rattle.flooding.specs.Seats.{no_seat, new_seats, seat_in, entering}
 use Rattle.flooding.specs.declared.seats.Seat.{Seat}
 use Rattle.flooding.specs.declared.mail.Load.{Load}
 use Rattle.flooding.specs.Flooding.{FloodingState, to_send, flooding_work, seen, new_flooding, enter_on, put_forward, propose_on, arrive_on, lose_on, carry_on, crash_on, doubt_on, suspect_on}
-use Rattle.flooding.specs.Made.{Underway}
-use Rattle.flooding.specs.Sound.{SettledFlooding}
+use Rattle.flooding.specs.Made.{Underway, MadeFlooding}
 use Rattle.tables.proofs.Written.{place_written, shaped_after}
 use Rattle.flooding.specs.Works.{enter_work}
 use Rattle.flooding.specs.Changes.{DecidedBy, Placed, steps_moved, through_moved, arrive_moved}
@@ -59,7 +58,7 @@ thirty n l =
     let square : (n - 1) * (n - 1) ≤ 5 * 5 = mul-le-mul five five in
     omega arith
 
-pub propose_means : (x : FloodingState) (k p s : ℕ) → SettledFlooding x → s < 2 ^ 32 → propose_answer (seen x) k p s ≡ Ok tt → Proposed 30 (seen x) (seen (propose_on x k p s)) k p s
+pub propose_means : (x : FloodingState) (k p s : ℕ) → MadeFlooding x → s < 2 ^ 32 → propose_answer (seen x) k p s ≡ Ok tt → Proposed 30 (seen x) (seen (propose_on x k p s)) k p s
 propose_means x k p s g fits h =
     let f = propose_accepted (seen x) k p s h in
     let n : ℕ = x.cards.count in
@@ -85,7 +84,7 @@ propose_means x k p s g fits h =
       decided_more = decides_more x after p f.1 m.decided;
     }
 
-arrived_means : (x : FloodingState) (i : ℕ) (y : Item Load) → SettledFlooding x → slice_get x.wire i ≡ Some y → i < length x.wire → Carried (seen x) (seen (arrive_on (lose_on x i) y))
+arrived_means : (x : FloodingState) (i : ℕ) (y : Item Load) → MadeFlooding x → slice_get x.wire i ≡ Some y → i < length x.wire → Carried (seen x) (seen (arrive_on (lose_on x i) y))
 arrived_means x i y g e l =
     let u = all_nth (Underway x.cards) x.wire i y g.whole.items e in
     let placed : Placed (lose_on x i) y.to = record { seats_shaped = g.whole.seats_shaped; decisions_shaped = g.whole.decisions_shaped; few = g.whole.sound.few; card = u.receiver; up = u.up } in
@@ -100,22 +99,19 @@ arrived_means x i y g e l =
       decided_more = decides_more x after y.to u.up m.decided;
     }
 
-pub carry_means : (x : FloodingState) (i : ℕ) → SettledFlooding x → carry_answer (seen x).net i ≡ Ok tt → Carried (seen x) (seen (carry_on x i))
+pub carry_means : (x : FloodingState) (i : ℕ) → MadeFlooding x → carry_answer (seen x).net i ≡ Ok tt → Carried (seen x) (seen (carry_on x i))
 carry_means x i g h =
     let t = carried_item x.cards x.wire (flooding_work x) i h in
     rw t.1 (arrived_means x i t.0 g t.1 t.2)
 
-pub loss_is_lost : (x : FloodingState) (i : ℕ) → lose_answer (seen x).net i ≡ Ok tt → Lost (seen x) (seen (lose_on x i)) i
-loss_is_lost x i h =
+pub lose_means : (x : FloodingState) (i : ℕ) → MadeFlooding x → lose_answer (seen x).net i ≡ Ok tt → Lost (seen x) (seen (lose_on x i)) i
+lose_means x i g h =
     let y = lost_item x.cards x.wire (flooding_work x) i h in
     record {
       net = record { same_cards = same_cards x.cards _ _ _ _; item_leaves = senders_removed x.wire i; work_falls = omega (arith, length-remove x.wire i y.2) };
       proposals_stay = λ k p. refl;
       decisions_stay = λ k p. refl;
     }
-
-pub lose_means : (x : FloodingState) (i : ℕ) → SettledFlooding x → lose_answer (seen x).net i ≡ Ok tt → Lost (seen x) (seen (lose_on x i)) i
-lose_means x i g h = loss_is_lost x i h
 
 -- A crashed card sends no more.
 less_to_send : (c : CardState) (p q : ℕ) (s : Seat) → SoundCards c → p < c.count → to_send (with_crash c p) s q ≤ to_send c s q
@@ -128,22 +124,19 @@ less_to_send c p q s g h =
     omega arith)
     (cases_Bool (crashed_in (with_crash c p) q))
 
-pub crash_is_crashed : (x : FloodingState) (p : ℕ) → SoundCards x.cards → crash_answer (seen x).net p ≡ Ok tt → Crashed (seen x) (seen (crash_on x p)) p
-crash_is_crashed x p g h =
+pub crash_means : (x : FloodingState) (p : ℕ) → MadeFlooding x → crash_answer (seen x).net p ≡ Ok tt → Crashed (seen x) (seen (crash_on x p)) p
+crash_means x p g h =
     let c = x.cards in
     let f = crash_accepted (seen x).net p h in
     let less = total_le (λ k. total (λ q. to_send (with_crash c p) (seat_in x.seats k q) q) c.count) (λ k. total (λ q. to_send c (seat_in x.seats k q) q) c.count) 32
-    (λ k _. total_le (λ q. to_send (with_crash c p) (seat_in x.seats k q) q) (λ q. to_send c (seat_in x.seats k q) q) c.count (λ q _. less_to_send c p q (seat_in x.seats k q) g f.0)) in
+    (λ k _. total_le (λ q. to_send (with_crash c p) (seat_in x.seats k q) q) (λ q. to_send c (seat_in x.seats k q) q) c.count (λ q _. less_to_send c p q (seat_in x.seats k q) g.whole.sound f.0)) in
     record {
-      net = net_crashed c p _ _ _ _ g f.0 (part_left (λ y. y.from) (elsewhere p) x.wire) (omega (arith, less, length_left (elsewhere p) x.wire));
+      net = net_crashed c p _ _ _ _ g.whole.sound f.0 (part_left (λ y. y.from) (elsewhere p) x.wire) (omega (arith, less, length_left (elsewhere p) x.wire));
       proposals_stay = λ k q. refl;
       decisions_stay = λ k q. refl;
     }
 
-pub crash_means : (x : FloodingState) (p : ℕ) → SettledFlooding x → crash_answer (seen x).net p ≡ Ok tt → Crashed (seen x) (seen (crash_on x p)) p
-crash_means x p g h = crash_is_crashed x p g.whole.sound h
-
-pub suspect_means : (x : FloodingState) (q p : ℕ) → SettledFlooding x → suspect_answer (seen x).net q p ≡ Ok tt → Suspected (seen x) (seen (suspect_on x q p)) q p
+pub suspect_means : (x : FloodingState) (q p : ℕ) → MadeFlooding x → suspect_answer (seen x).net q p ≡ Ok tt → Suspected (seen x) (seen (suspect_on x q p)) q p
 suspect_means x q p g h =
     let f = suspect_accepted (seen x).net q p h in
     let placed : Placed (doubt_on x q p) q = record { seats_shaped = g.whole.seats_shaped; decisions_shaped = g.whole.decisions_shaped; few = g.whole.sound.few; card = f.0; up = f.2 } in

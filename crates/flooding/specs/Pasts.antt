@@ -41,30 +41,25 @@ then_further h l m q r a b =
 -- The moves.
 
 module _ (h : Past) (q : ℕ) where
-  pub proposing_further : h.round q ≡ 0 → Further h (proposing h q) q 1
-  proposing_further e =
-      record {
-        now = put_same h.round q 1;
-        low = omega arith;
-        high = omega arith;
-        others = λ p d. put_other h.round q 1 p d;
-        knew_stays = λ p s z b. at_row h.knew q 1 (λ x. nat_eq x q) p s (λ f. f z ≡ h.knew p s z) (λ a i. absurd (let j = ap h.round a in omega arith)) (λ _. refl);
-        counted_stays = λ p s y d. refl;
-        counted_grows = λ p s y c. c;
-      }
-
-  pub passing_further : (n : ℕ) → Further h (passing n h q) q (suc (h.round q))
-  passing_further n =
-      let r : ℕ = suc (h.round q) in
+  -- It enters round r, the next: row says what it knows then.
+  entering_further : (r : ℕ) (row : ℕ → Bool) → r ≡ suc (h.round q)
+      → Further h (record { round = put h.round q r; knew = put h.knew q (put (h.knew q) r row); counted = h.counted }) q r
+  entering_further r row e =
       record {
         now = put_same h.round q r;
         low = omega arith;
         high = omega arith;
         others = λ p d. put_other h.round q r p d;
-        knew_stays = λ p s z b. at_row h.knew q r (heard_of n h q (h.round q)) p s (λ f. f z ≡ h.knew p s z) (λ a i. absurd (let j = ap h.round a in omega arith)) (λ _. refl);
+        knew_stays = λ p s z b. at_row h.knew q r row p s (λ f. f z ≡ h.knew p s z) (λ a i. absurd (let j = ap h.round a in omega arith)) (λ _. refl);
         counted_stays = λ p s y d. refl;
         counted_grows = λ p s y c. c;
       }
+
+  pub proposing_further : h.round q ≡ 0 → Further h (proposing h q) q 1
+  proposing_further e = entering_further 1 (λ x. nat_eq x q) (omega arith)
+
+  pub passing_further : (n : ℕ) → Further h (passing n h q) q (suc (h.round q))
+  passing_further n = entering_further (suc (h.round q)) (heard_of n h q (h.round q)) refl
 
   pub counting_further : (y : ℕ) → Further h (counting h q y) q (h.round q)
   counting_further y =

@@ -1,5 +1,5 @@
 -- A card's seat as it enters a round and counts others there, with the history that this makes.
-use Rattle.std.specs.Prelude.{◌≡◌, ℕ, zero, suc, ◌^◌, ◌<◌, ◌≤◌, Bool, true, false, cond, not, ◌&&◌, ◌||◌, List, [], ◌∷◌, ◌==◌, bit_or, nat_eq, refl}
+use Rattle.std.specs.Prelude.{◌≡◌, ℕ, zero, suc, ◌^◌, ◌<◌, ◌≤◌, Bool, true, false, cond, not, ◌&&◌, ◌||◌, List, [], ◌∷◌, ◌==◌, bit_or, refl}
 use Rattle.std.proofs.Common.{sym, ap, subst, ◌∙◌, ⊎_elim, arith}
 use Rattle.std.proofs.lemmas.Nat.{or_lt}
 use Rattle.std.specs.List.{AllByRecursion, list_any}
@@ -18,9 +18,9 @@ use Rattle.flooding.specs.Seats.{entering, hearing}
 use Rattle.flooding.specs.declared.seats.Seat.{Seat}
 use Rattle.flooding.specs.Mail.{is_for, taking_one, taking_in}
 use Rattle.flooding.specs.declared.mail.Load.{Load}
-use Rattle.flooding.specs.Made.{fates_of, brings}
-use Rattle.flooding.specs.Sound.{Seated, Says, SaysIn}
+use Rattle.flooding.specs.Made.{fates_of, brings, Seated, Says, SaysIn}
 use Rattle.flooding.specs.Mails.{taking_one_round}
+use Rattle.flooding.specs.Leaves.{brings_parts}
 use Rattle.flooding.specs.Pasts.{Further, no_further, round_grows, then_further, counting_further, any_same, heard_stays}
 
 -- What another card's move leaves.
@@ -34,8 +34,8 @@ seated_stays n f h l q r p s i m d g =
       knows = λ z o. g.knows z o ∙ sym (heard_stays n f h i l q r p s.round z m d);
     }
 
-true_stays : (n : ℕ) (h l : Past) (q r : ℕ) (y : Item Load) → Further h l q r → Says n h y → Says n l y
-true_stays n h l q r y m t =
+says_stays : (n : ℕ) (h l : Past) (q r : ℕ) (y : Item Load) → Further h l q r → Says n h y → Says n l y
+says_stays n h l q r y m t =
     record {
       sender = t.sender;
       receiver = t.receiver;
@@ -47,8 +47,8 @@ true_stays n h l q r y m t =
       fits = t.fits;
     }
 
-pub trues_stay : (n : ℕ) (h l : Past) (q r k : ℕ) (xs : List (Item Load)) → Further h l q r → AllByRecursion (SaysIn n h k) xs → AllByRecursion (SaysIn n l k) xs
-trues_stay n h l q r k xs m t = All-weaker (SaysIn n h k) (SaysIn n l k) (λ y f e. true_stays n h l q r y m (f e)) xs t
+pub all_say_stays : (n : ℕ) (h l : Past) (q r k : ℕ) (xs : List (Item Load)) → Further h l q r → AllByRecursion (SaysIn n h k) xs → AllByRecursion (SaysIn n l k) xs
+all_say_stays n h l q r k xs m t = All-weaker (SaysIn n h k) (SaysIn n l k) (λ y f e. says_stays n h l q r y m (f e)) xs t
 
 -- Card q sits in round r, with a history that it has made from h by counting cards there.
 pub record Sits (n : ℕ) (f : Fates) (h : Past) (q r : ℕ) (s : Seat) : Type 0 where
@@ -196,13 +196,10 @@ module _ (c : CardState) (q : ℕ) where
   taking_counts k r s (y ∷ ys) p e l u b =
       ⊎_elim
       (λ t.
-      let a = and_parts (y.load.instance == k && y.load.round == r) (y.from == p && y.to == q) t in
-      let i = and_parts (y.load.instance == k) (y.load.round == r) a.0 in
-      let j = and_parts (y.from == p) (y.to == q) a.1 in
-      let f : y.from ≡ p = eqb-true _ _ j.0 in
-      let now : is_for k s.round q y ≡ true = and_from _ _ i.0 (and_from _ _ (ap (nat_eq y.load.round) e ∙ i.1) j.1) in
+      let z = brings_parts k r p q y t in
+      let now : is_for k s.round q y ≡ true = and_from _ _ (eq-eqb _ _ z.2) (and_from _ _ (eq-eqb _ _ (z.3 ∙ sym e)) (eq-eqb _ _ z.1)) in
       taking_grows k (taking_one c k q s y) ys p
       (ap (λ (v : Seat). has v.counted p) (cond-true (is_for k s.round q y) (hearing c q y.from y.load.known s) s now)
-      ∙ subst (λ v. has (hearing c q v y.load.known s).counted p ≡ true) (sym f) (hearing_counts p y.load.known s l u)))
+      ∙ subst (λ v. has (hearing c q v y.load.known s).counted p ≡ true) (sym z.0) (hearing_counts p y.load.known s l u)))
       (λ t. taking_counts k r (taking_one c k q s y) ys p (taking_one_round c k q s y ∙ e) l u t)
       (or_cases _ _ b)

@@ -1,19 +1,15 @@
 -- A card moves as often as it can: then the state holds together, the card cannot move any more, and whether another can is as before.
-use Rattle.std.specs.Prelude.{◌≡◌, ℕ, zero, suc, ◌+◌, ◌<◌, ◌≤◌, true, false, not, ◌&&◌, ◌⊎◌, List, is_some, None, Option, ◌≢◌, nat_lt, refl}
+use Rattle.std.specs.Prelude.{◌≡◌, ℕ, zero, suc, ◌+◌, ◌<◌, ◌≤◌, true, false, not, ◌&&◌, ◌⊎◌, is_some, None, Option, ◌≢◌, nat_lt, refl}
 use Rattle.std.proofs.Common.{sym, ap, subst, ◌∙◌, inl, inr, ⊎_elim, arith}
 use Rattle.std.proofs.lemmas.Bool.{cases_Bool, cases_eq, both_ways, cond_both, cond-true, cond-false, ltb-true, ltb-false}
 use Rattle.notes.specs.Sets.{low}
 use Rattle.cards.specs.Cards.{CardState, Running}
 use Rattle.tables.specs.Tables.{Shaped, ballot_in, with_ballot}
-use Rattle.flooding.specs.Seats.{no_seat, seat_in, with_seat, entering, ready}
+use Rattle.flooding.specs.Seats.{no_seat, seat_in, ready}
 use Rattle.flooding.specs.declared.seats.Seat.{Seat}
-use Rattle.flooding.specs.Mail.{taking_in}
 use Rattle.flooding.specs.Flooding.{FloodingState, seat_on, enter_on, decide_on, proposal_of, may_move, move_on, step_on, steps_on, settle_on, through_on}
-use Rattle.flooding.specs.Made.{stage_of}
-use Rattle.flooding.specs.Sound.{SoundFlooding}
-use Rattle.flooding.specs.Mails.{taking_round}
-use Rattle.tables.proofs.Written.{shaped_after}
-use Rattle.flooding.specs.Works.{cell_same, cell_other, may_move_means, step_cards}
+use Rattle.flooding.specs.Made.{stage_from, SoundFlooding}
+use Rattle.flooding.specs.Works.{cell_same, cell_other, may_move_means, after_turn, enter_round, enter_other, step_cards}
 use Rattle.flooding.specs.Actions.{Elsewhere}
 use Rattle.flooding.specs.Enters.{next_whole, choice, decide_whole}
 
@@ -22,26 +18,12 @@ pub seat_stays : (x : FloodingState) (k q j p : ℕ) (s : Seat) → SoundFloodin
 seat_stays x k q j p s g hk bq e =
     ap (λ u. nat_lt p x.cards.count && (not (is_some (ballot_in x.decisions j p)) && ready x.cards p u)) (cell_other x.seats k q j p s no_seat g.seats_shaped hk (omega (arith, g.sound.few)) e)
 
-module _ (x : FloodingState) (k q : ℕ) (g : Shaped x.seats) (hk : k < 32) (six : q < 6) (r known : ℕ) where
-  abbrev first : List (List Seat)
-  first = with_seat x.seats k q (entering q r known)
+pub enter_stays : (x : FloodingState) (k q : ℕ) → Shaped x.seats → k < 32 → q < 6 → (r known j p : ℕ) → Elsewhere k q j p → may_move (enter_on x k q r known) j p ≡ may_move x j p
+enter_stays x k q g hk six r known j p e =
+    ap (λ u. nat_lt p x.cards.count && (not (is_some (ballot_in x.decisions j p)) && ready x.cards p u)) (enter_other x k q g hk six r known j p e)
 
-  abbrev last : Seat
-  last = taking_in x.cards k q (seat_in first k q) x.kept
-
-  entered_shaped : Shaped first
-  entered_shaped = shaped_after x.seats k q (entering q r known) g hk
-
-  enter_round : (seat_in (enter_on x k q r known).seats k q).round ≡ r
-  enter_round =
-      ap (λ (s : Seat). s.round) (cell_same first k q last no_seat entered_shaped hk six)
-      ∙ taking_round x.cards k q (seat_in first k q) x.kept
-      ∙ ap (λ (s : Seat). s.round) (cell_same x.seats k q (entering q r known) no_seat g hk six)
-
-  pub enter_stays : (j p : ℕ) → Elsewhere k q j p → may_move (enter_on x k q r known) j p ≡ may_move x j p
-  enter_stays j p e =
-      ap (λ u. nat_lt p x.cards.count && (not (is_some (ballot_in x.decisions j p)) && ready x.cards p u))
-      (cell_other first k q j p last no_seat entered_shaped hk six e ∙ cell_other x.seats k q j p (entering q r known) no_seat g hk six e)
+abbrev stage_of : FloodingState → ℕ → ℕ → ℕ
+stage_of x k p = stage_from x.cards.count (ballot_in x.decisions k p) (seat_in x.seats k p)
 
 -- One move takes the card one stage further.
 module _ (x : FloodingState) (k q : ℕ) (g : SoundFlooding x) (hk : k < 32) (u : Running x.cards q) where
@@ -72,11 +54,10 @@ module _ (x : FloodingState) (k q : ℕ) (g : SoundFlooding x) (hk : k < 32) (u 
   step_stays : (j p : ℕ) → Elsewhere k q j p → may_move (step_on x k q) j p ≡ may_move x j p
   step_stays j p e =
       let known : ℕ = (seat_in x.seats k q).known in
-      cond_both (may_move x k q) (move_on x k q) x (λ y. may_move y j p ≡ may_move x j p)
-      (λ _. cond_both (nat_lt round x.cards.count) (enter_on x k q (round + 1) known) (decide_on x k q) (λ y. may_move y j p ≡ may_move x j p)
-      (λ _. enter_stays x k q g.seats_shaped hk six (round + 1) known j p e)
-      (λ _. ap (λ v. nat_lt p x.cards.count && (not (is_some v) && ready x.cards p (seat_in x.seats j p))) (cell_other x.decisions k q j p (proposal_of x.proposals k (low known)) None g.decisions_shaped hk six e)))
-      (λ _. refl)
+      after_turn x k q (λ y. may_move y j p ≡ may_move x j p)
+      (λ _ _. enter_stays x k q g.seats_shaped hk six (round + 1) known j p e)
+      (λ _. ap (λ v. nat_lt p x.cards.count && (not (is_some v) && ready x.cards p (seat_in x.seats j p))) (cell_other x.decisions k q j p (proposal_of x.proposals k (low known)) None g.decisions_shaped hk six e))
+      refl
 
 -- What card q's moves in instance k make of x, and how far they get.
 pub record Stepped (x y : FloodingState) (k q : ℕ) (Far : Type 0) : Type 0 where

@@ -12,7 +12,7 @@ use Rattle.tables.proofs.Written.{place_written, shaped_after}
 use Rattle.wire.proofs.Wires.{length_sent_others}
 use Rattle.flooding.specs.Seats.{no_seat, seat_in, with_seat, entering, all_counted}
 use Rattle.flooding.specs.declared.seats.Seat.{Seat}
-use Rattle.flooding.specs.Mail.{taking_in}
+use Rattle.flooding.specs.Mail.{telling, taking_in}
 use Rattle.flooding.specs.declared.mail.Load.{Load}
 use Rattle.flooding.specs.Flooding.{FloodingState, to_send, flooding_work, enter_on, decide_on, may_move, move_on, step_on}
 use Rattle.flooding.specs.Mails.{taking_round}
@@ -58,6 +58,36 @@ may_move_means x k q m =
     let c = and_parts (nat_lt 0 s.round) (all_counted x.cards q s n) b.1 in
     (ltb-true _ _ a.0, not-true _ b.0, ltb-true _ _ c.0, c.1)
 
+-- What holds after entering the next round, after deciding and with no move, holds after a turn.
+pub after_turn : (x : FloodingState) (k q : ℕ) (P : FloodingState → Type 0)
+    → (may_move x k q ≡ true → (seat_in x.seats k q).round < x.cards.count → P (enter_on x k q ((seat_in x.seats k q).round + 1) (seat_in x.seats k q).known))
+    → (may_move x k q ≡ true → P (decide_on x k q))
+    → P x → P (step_on x k q)
+after_turn x k q P enters decides none =
+    cond_both (may_move x k q) (move_on x k q) x P
+    (λ m. cond_both (nat_lt (seat_in x.seats k q).round x.cards.count) _ (decide_on x k q) P (λ l. enters m (ltb-true _ _ l)) (λ _. decides m))
+    (λ _. none)
+
+-- Entering a round writes one seat.
+module _ (x : FloodingState) (k q : ℕ) (g : Shaped x.seats) (hk : k < 32) (six : q < 6) (r known : ℕ) where
+  abbrev first : List (List Seat)
+  first = with_seat x.seats k q (entering q r known)
+
+  abbrev last : Seat
+  last = taking_in x.cards k q (seat_in first k q) x.kept
+
+  entered_shaped : Shaped first
+  entered_shaped = shaped_after x.seats k q (entering q r known) g hk
+
+  pub enter_round : (seat_in (enter_on x k q r known).seats k q).round ≡ r
+  enter_round =
+      ap (λ (s : Seat). s.round) (cell_same first k q last no_seat entered_shaped hk six)
+      ∙ taking_round x.cards k q (seat_in first k q) x.kept
+      ∙ ap (λ (s : Seat). s.round) (cell_same x.seats k q (entering q r known) no_seat g hk six)
+
+  pub enter_other : (j p : ℕ) → ((j ≡ k) × (p ≡ q) → ⊥) → seat_in (enter_on x k q r known).seats j p ≡ seat_in x.seats j p
+  enter_other j p e = cell_other first k q j p last no_seat entered_shaped hk six e ∙ cell_other x.seats k q j p (entering q r known) no_seat g hk six e
+
 module _ (x : FloodingState) (k q : ℕ) (g : Shaped x.seats) (hk : k < 32) (few : x.cards.count ≤ 6) (hq : q < x.cards.count) (up : crashed_in x.cards q ≡ false) where
   -- Entering round r sends at most n - 1 items, and leaves n - r rounds to enter.
   pub enter_work : (r known more : ℕ) → 0 < r → (x.cards.count - 1) * (x.cards.count - r) + (x.cards.count - 1) ≤ to_send x.cards (seat_in x.seats k q) q + more
@@ -66,15 +96,9 @@ module _ (x : FloodingState) (k q : ℕ) (g : Shaped x.seats) (hk : k < 32) (few
       let c = x.cards in
       let n : ℕ = c.count in
       let six : q < 6 = omega arith in
-      let first = with_seat x.seats k q (entering q r known) in
-      let g' = shaped_after x.seats k q (entering q r known) g hk in
-      let here : Seat = seat_in first k q in
-      let last : Seat = taking_in c k q here x.kept in
-      let seats : List (List Seat) = with_seat first k q last in
-      let other : (j p : ℕ) → ((j ≡ k) × (p ≡ q) → ⊥) → seat_in seats j p ≡ seat_in x.seats j p =
-      λ j p d. cell_other first k q j p last no_seat g' hk six d ∙ cell_other x.seats k q j p (entering q r known) no_seat g hk six d in
-      let now : (seat_in seats k q).round ≡ r =
-      ap (λ (s : Seat). s.round) (cell_same first k q last no_seat g' hk six) ∙ taking_round c k q here x.kept ∙ ap (λ (s : Seat). s.round) (cell_same x.seats k q (entering q r known) no_seat g hk six) in
+      let seats : List (List Seat) = (enter_on x k q r known).seats in
+      let other : (j p : ℕ) → ((j ≡ k) × (p ≡ q) → ⊥) → seat_in seats j p ≡ seat_in x.seats j p = enter_other x k q g hk six r known in
+      let now : (seat_in seats k q).round ≡ r = enter_round x k q g hk six r known in
       let after : to_send c (seat_in seats k q) q ≡ (n - 1) * (n - r) = sends c (seat_in seats k q) q up (omega arith) ∙ ap (λ i. (n - 1) * (n - i)) now in
       let row : total (λ p. to_send c (seat_in seats k p) p) n + (n - 1) ≤ total (λ p. to_send c (seat_in x.seats k p) p) n + more =
       total_trade (λ p. to_send c (seat_in seats k p) p) (λ p. to_send c (seat_in x.seats k p) p) n q (n - 1) more hq
@@ -83,7 +107,7 @@ module _ (x : FloodingState) (k q : ℕ) (g : Shaped x.seats) (hk : k < 32) (few
       total_trade (λ j. total (λ p. to_send c (seat_in seats j p) p) n) (λ j. total (λ p. to_send c (seat_in x.seats j p) p) n) 32 k (n - 1) more hk
       (λ j _ d. total_le (λ p. to_send c (seat_in seats j p) p) (λ p. to_send c (seat_in x.seats j p) p) n
       (λ p _. let e : to_send c (seat_in seats j p) p ≡ to_send c (seat_in x.seats j p) p = ap (λ s. to_send c s p) (other j p (λ z. d z.0)) in omega arith)) row in
-      let load : Load = record { instance = k; round = here.round; known = here.known } in
+      let load : Load = telling (with_seat x.seats k q (entering q r known)) k q in
       omega (arith, all, length-append x.wire (sent c q load n), length_sent_others c q load n hq)
 
   -- From one round to the next, what is sent was still to be sent.
@@ -95,31 +119,15 @@ module _ (x : FloodingState) (k q : ℕ) (g : Shaped x.seats) (hk : k < 32) (few
 
   pub step_work : flooding_work (step_on x k q) ≤ flooding_work x
   step_work =
-      cond_both (may_move x k q) (move_on x k q) x (λ y. flooding_work y ≤ flooding_work x)
-      (λ m.
-      let o : 0 < (seat_in x.seats k q).round = (may_move_means x k q m).2 in
-      cond_both (nat_lt (seat_in x.seats k q).round x.cards.count) _ _ (λ y. flooding_work y ≤ flooding_work x) (λ t. next_work (seat_in x.seats k q).known o (ltb-true _ _ t)) (λ _. omega arith))
-      (λ _. omega arith)
+      after_turn x k q (λ y. flooding_work y ≤ flooding_work x) (λ m l. next_work (seat_in x.seats k q).known (may_move_means x k q m).2 l) (λ _. omega arith) (omega arith)
 
 -- What a move leaves as it was.
 
 pub step_cards : (x : FloodingState) (k q : ℕ) → (step_on x k q).cards ≡ x.cards
-step_cards x k q =
-    cond_both (may_move x k q) (move_on x k q) x (λ y. y.cards ≡ x.cards)
-    (λ _. cond_both (nat_lt (seat_in x.seats k q).round x.cards.count) (enter_on x k q ((seat_in x.seats k q).round + 1) (seat_in x.seats k q).known) (decide_on x k q) (λ y. y.cards ≡ x.cards) (λ _. refl) (λ _. refl))
-    (λ _. refl)
+step_cards x k q = after_turn x k q (λ y. y.cards ≡ x.cards) (λ _ _. refl) (λ _. refl) refl
 
 pub step_proposals : (x : FloodingState) (k q : ℕ) → (step_on x k q).proposals ≡ x.proposals
-step_proposals x k q =
-    cond_both (may_move x k q) (move_on x k q) x (λ y. y.proposals ≡ x.proposals)
-    (λ _. cond_both (nat_lt (seat_in x.seats k q).round x.cards.count) (enter_on x k q ((seat_in x.seats k q).round + 1) (seat_in x.seats k q).known) (decide_on x k q) (λ y. y.proposals ≡ x.proposals) (λ _. refl) (λ _. refl))
-    (λ _. refl)
+step_proposals x k q = after_turn x k q (λ y. y.proposals ≡ x.proposals) (λ _ _. refl) (λ _. refl) refl
 
 pub step_seats : (x : FloodingState) (k q : ℕ) → Shaped x.seats → k < 32 → Shaped (step_on x k q).seats
-step_seats x k q g hk =
-    cond_both (may_move x k q) (move_on x k q) x (λ y. Shaped y.seats)
-    (λ _.
-    cond_both (nat_lt (seat_in x.seats k q).round x.cards.count) (enter_on x k q ((seat_in x.seats k q).round + 1) (seat_in x.seats k q).known) (decide_on x k q) (λ y. Shaped y.seats)
-    (λ _. shaped_after _ k q _ (shaped_after x.seats k q _ g hk) hk)
-    (λ _. g))
-    (λ _. g)
+step_seats x k q g hk = after_turn x k q (λ y. Shaped y.seats) (λ _ _. shaped_after _ k q _ (shaped_after x.seats k q _ g hk) hk) (λ _. g) g

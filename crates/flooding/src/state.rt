@@ -6,7 +6,6 @@ use tables::ballots::Ballots;
 use wire::{Item, Wire};
 
 pub mod consensus;
-mod laws;
 mod moves;
 
 // The items under way, and those that came before their round and are kept for it: each list has room for all that can be sent. What is kept is

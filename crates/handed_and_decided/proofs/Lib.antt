@@ -1,1 +1,2 @@
 mod Emptied
+mod Texts

@@ -1,4 +1,4 @@
-ghost use Rattle.std.specs.Prelude.{◌≡◌, ℕ, ◌-◌, ◌<◌, ◌≤◌, true, [], length, IfSome, MatchOption};
+ghost use Rattle.std.specs.Prelude.{◌≡◌, ℕ, ◌-◌, ◌<◌, ◌≤◌, true, [], length, IsSome, IfSome, IfNone};
 ghost use Rattle.notes.specs.Sets.{has};
 ghost use Rattle.parts.specs.Shown.{shown};
 ghost use Rattle.parts.specs.Views.{Quiet, Runs};
@@ -39,8 +39,13 @@ pub fn carry_all_proposals<C: Consensus>(consensus: &mut C, limit: usize)
 
 // The set of a running card, where the broadcast is quiet: it then holds every note that was handed to any card, crashed or not.
 pub fn complete_set<U: Uniform>(broadcast: &U, card: usize) -> Option<NoteSet>
-    ensures value { MatchOption result (Quiet (shown U.Broadcast (U.Broadcast.state broadcast.now)).net → Runs (shown U.Broadcast (U.Broadcast.state broadcast.now)).net card → ⊥) (λ s. s ≡ U.Broadcast.handed (U.Broadcast.state broadcast.now) card) }
-    ensures complete { U.Broadcast.made (U.Broadcast.state broadcast.now) → IfSome result (λ s. (p m : ℕ) → has (U.Broadcast.handed (U.Broadcast.state broadcast.now) p) m ≡ true → has s m ≡ true) }
+    ensures none { IfNone result (Quiet (shown U.Broadcast (U.Broadcast.state broadcast.now)).net
+        → Runs (shown U.Broadcast (U.Broadcast.state broadcast.now)).net card → ⊥) }
+    ensures quiet { IsSome result → Quiet (shown U.Broadcast (U.Broadcast.state broadcast.now)).net }
+    ensures runs { IsSome result → Runs (shown U.Broadcast (U.Broadcast.state broadcast.now)).net card }
+    ensures value { IfSome result (λ s. s ≡ U.Broadcast.handed (U.Broadcast.state broadcast.now) card) }
+    ensures complete { U.Broadcast.made (U.Broadcast.state broadcast.now) → IfSome result (λ s. (p m : ℕ)
+        → has (U.Broadcast.handed (U.Broadcast.state broadcast.now) p) m ≡ true → has s m ≡ true) }
 {
     let complete = card < broadcast.card_count()
         && !broadcast.has_crashed(card)

@@ -1,6 +1,8 @@
-ghost use Rattle.std.specs.Prelude.{◌≡◌, Err, IfOk, Some, None};
+ghost use Rattle.std.specs.Prelude.{◌≡◌, ◌++◌, Err, IfOk, OnOk, Some, None, string_bytes};
 ghost use Rattle.parts.specs.declared.refusal.Refusal.TheVariants.{SenderNotCrashed};
+ghost use Rattle.handed_and_decided.specs.Lines.{refusal_line, cases_text};
 
+use crate::report::{write_decided, write_handed};
 use board::state::Board;
 use notes::set::NoteSet;
 use parts::broadcast::Broadcast;
@@ -9,7 +11,33 @@ use parts::refusal::Refusal;
 use register::state::Register;
 use std::alloc::{AllocError, Global};
 
-// What these calls answer is not asked: each contract tells what they come to.
+// What the three cases come to.
+pub fn cases_text(heap: Global) -> Result<String, AllocError>
+    ensures { IfOk result (λ out. string_bytes out ≡ cases_text) }
+{
+    let mut out = String::new(heap);
+    let (first, second) = one_carried_item(heap)?;
+    write_handed(&mut out, 0, false, first)?;
+    write_handed(&mut out, 1, false, second)?;
+    write_refusal(&mut out, posted_item_is_not_lost(heap)?)?;
+    let (crashed, running) = first_carried_is_decided(heap)?;
+    write_decided(&mut out, 0, true, crashed)?;
+    write_decided(&mut out, 1, false, running)?;
+    Ok(out)
+}
+
+// A line with the number of the refusal, if there is one.
+fn write_refusal(out: &mut String, answer: Result<(), Refusal>) -> Result<(), AllocError>
+    ensures { OnOk result (string_bytes out.new ≡ string_bytes out.old ++ refusal_line answer) }
+{
+    if let Err(refusal) = answer {
+        let number = refusal.number();
+        write!(out, "no {number}\n")?;
+    }
+    Ok(())
+}
+
+// What the calls below answer is not asked: each contract tells what they come to.
 
 // A note reaches the card whose item is carried, and no other.
 pub fn one_carried_item(heap: Global) -> Result<(NoteSet, NoteSet), AllocError>

@@ -6,7 +6,8 @@ mod cases;
 mod report;
 
 use crate::carrying::{carry_all, carry_all_proposals, complete_set};
-use crate::report::{decisions, handed};
+use crate::cases::cases_text;
+use crate::report::{decided, handed};
 use board::state::Board;
 use notes::set::NoteSet;
 use parts::broadcast::Broadcast;
@@ -22,7 +23,8 @@ fn main(rt: HostRuntime) -> io::Result<()> {
     let _ = board.crash(2);
     carry_all(&mut board, 192);
     println!(rt; "board")?;
-    handed(&rt, &board)?;
+    let lines = handed(rt.alloc(), &board)?;
+    print!(rt; "{lines}")?;
     println!(rt; "complete: {}", complete_set(&board, 0).is_some())?;
     let _ = board.suspect(0, 2);
     let _ = board.suspect(1, 2);
@@ -35,5 +37,10 @@ fn main(rt: HostRuntime) -> io::Result<()> {
     let _ = register.propose(0, 1, NoteSet::empty().with(4));
     carry_all_proposals(&mut register, 192);
     println!(rt; "register")?;
-    decisions(&rt, &register, 0)
+    let lines = decided(rt.alloc(), &register, 0)?;
+    print!(rt; "{lines}")?;
+
+    println!(rt; "cases")?;
+    let lines = cases_text(rt.alloc())?;
+    print!(rt; "{lines}")
 }

@@ -9,7 +9,7 @@ use Rattle.inturn.specs.Turns.{post_of, written}
 use Rattle.inturn.specs.Layers.{Layered, layered}
 use Rattle.inturn.specs.Calls.{Behaviour, in_turn_over, Call, post, carry, lose, crash, suspect, answer, accepted, next, after, answers, posts_in, accepted_posts, AsBelow, TwiceAsOnce}
 use Rattle.inturn.specs.Counts.{in_turn_again}
-use Rattle.inturn.specs.Means.{Means, small_notes, MadeOver, table_grows, means_in_turn}
+use Rattle.inturn.specs.Means.{Means, small_posts, MadeOver, table_grows, means_in_turn}
 
 -- Each call keeps what is made.
 module _ {S : Type 0} (b : Behaviour S) (made : S → Type 0) (bound : ℕ) (means : Means b made bound) where
@@ -114,7 +114,7 @@ module _ {S : Type 0} (b : Behaviour S) (made : S → Type 0) (bound : ℕ) (mea
   view_doubled s g =
       let v = b.view s.below in
       ap (λ sets. record { net = v.net; poster = v.poster; handed = sets })
-      (λ i c. in_turn_again s.posts (v.handed c) (small_notes s.posts v (means.lawful s.below g.0) g.1) i)
+      (λ i c. in_turn_again s.posts (v.handed c) (small_posts s.posts v (means.lawful s.below g.0) g.1) i)
 
   pub twice_as_once : TwiceAsOnce b
   twice_as_once =

@@ -1,8 +1,7 @@
 -- Which notes count.
-use Rattle.std.proofs.Common.{◌≡◌, ℕ, zero, suc, ◌+◌, ◌^◌, ◌<◌, ◌≤◌, Bool, true, cond, not, ◌||◌, ltb, List, [], ◌∷◌, ◌++◌, take, length, sym, refl, ap, ◌∙◌, ⊎_elim, arith, pow_pos}
-use Rattle.std.specs.Prelude.{◌==◌, slice_index_or}
-use Rattle.std.specs.List.{list_all}
-use Rattle.std.proofs.lemmas.List.{length_push, take_all, take-append-le}
+use Rattle.std.proofs.Common.{◌≡◌, ℕ, zero, suc, ◌^◌, ◌<◌, ◌≤◌, true, false, cond, not, ◌&&◌, ◌||◌, ltb, List, [], ◌∷◌, ◌++◌, length, sym, refl, ap, ◌∙◌, ⊎_elim, arith, pow_pos}
+use Rattle.std.specs.Prelude.{◌==◌}
+use Rattle.std.proofs.lemmas.List.{length_push}
 use lib.Bits.{or_lt}
 use lib.Pow.{pow-lt}
 use Rattle.std.proofs.lemmas.Bool.{cases_Bool, cases_eq, or_cases, or_left, or_right, and_parts, and_from, eqb-true, eq-eqb, cond-true, cond-false, cond_both, both_ways, not-true, not_from_false, lt-ltb, ltb-true}
@@ -11,34 +10,55 @@ use Rattle.notes.specs.Sets.{has, added}
 use Rattle.notes.proofs.Bits.{has_none, has_added, same_sets}
 use Rattle.inturn.specs.declared.post.Post.{Post}
 use Rattle.inturn.specs.Pushed.{old_place, new_place}
-use Rattle.inturn.specs.Turns.{post_of, post_at, all_held, counts, counted_of, in_turn}
+use Rattle.inturn.specs.Turns.{post_of, post_at, blocked_by, counts, counted_of, in_turn}
 
--- What the first posts of a table pass, by their places.
-passes_below : {X : Type 0} (test : X → Bool) (xs : List X) (d : X) (n : ℕ) → list_all test (take n xs) ≡ true → (j : ℕ) → j < length xs → j < n → test (slice_index_or xs j d) ≡ true
-passes_below test [] d n h j l o = absurd (omega arith)
-passes_below test (x ∷ xs) d zero h j l o = absurd (omega arith)
-passes_below test (x ∷ xs) d (suc n) h zero l o = (and_parts _ _ h).0
-passes_below test (x ∷ xs) d (suc n) h (suc j) l o = passes_below test xs d n (and_parts _ _ h).1 j (omega arith) (omega arith)
+-- Which cards are blocked by one post more.
+blocked_next : (posts : List Post) (s k p : ℕ)
+    → has (blocked_by posts s (suc k)) p
+    ≡ (has (blocked_by posts s k) p || (not (has s (post_at posts k).note) && (ltb (post_at posts k).card 32 && p == (post_at posts k).card)))
+blocked_next posts s k p =
+    let x = post_at posts k in
+    let b = blocked_by posts s k in
+    let u = has_added b x.card p in
+    ⊎_elim (λ t. let v = ap (λ z. has z p) (cond-true (has s x.note) b (added b x.card) t) in grind (arith, nat_tests, u, v, t))
+    (λ t. let v = ap (λ z. has z p) (cond-false (has s x.note) b (added b x.card) t) in grind (arith, nat_tests, u, v, t))
+    (cases_Bool (has s x.note))
 
-below_passes : {X : Type 0} (test : X → Bool) (xs : List X) (d : X) (n : ℕ) → ((j : ℕ) → j < length xs → j < n → test (slice_index_or xs j d) ≡ true) → list_all test (take n xs) ≡ true
-below_passes test xs d zero h = refl
-below_passes test [] d (suc n) h = refl
-below_passes test (x ∷ xs) d (suc n) h = and_from _ _ (h 0 (omega arith) (omega arith)) (below_passes test xs d n (λ j l o. h (suc j) (omega arith) (omega arith)))
+-- By a greater set no more cards are blocked.
+blocked_less : (posts : List Post) (s t p k : ℕ) → ((m : ℕ) → has s m ≡ true → has t m ≡ true) → has (blocked_by posts s k) p ≡ false → has (blocked_by posts t k) p ≡ false
+blocked_less posts s t p zero f h = has_none p
+blocked_less posts s t p (suc k) f h =
+    let u = blocked_next posts s k p in
+    let v = blocked_next posts t k p in
+    let r = blocked_less posts s t p k f in
+    let m = f (post_at posts k).note in
+    grind (arith, nat_tests, h, u, v, r, m)
+
+-- A card below 32 is not blocked exactly where the notes of all its posts so far are in the set.
+free_each : (posts : List Post) (s p k : ℕ) → p < 32 → has (blocked_by posts s k) p ≡ false → (j : ℕ) → j < k → (post_at posts j).card ≡ p → has s (post_at posts j).note ≡ true
+free_each posts s p zero l h j o e = absurd (omega arith)
+free_each posts s p (suc k) l h j o e =
+    let u = blocked_next posts s k p in
+    ⊎_elim (λ q. let y : (post_at posts k).card ≡ p = ap (λ i. (post_at posts i).card) (sym q) ∙ e in ap (λ i. has s (post_at posts i).note) q ∙ grind (arith, nat_tests, h, u, y, l))
+    (λ q. free_each posts s p k l (grind (arith, nat_tests, h, u)) j (omega (arith, q)) e)
+    (cases_eq j k)
+
+free_all : (posts : List Post) (s p k : ℕ) → ((j : ℕ) → j < k → (post_at posts j).card ≡ p → has s (post_at posts j).note ≡ true) → has (blocked_by posts s k) p ≡ false
+free_all posts s p zero h = has_none p
+free_all posts s p (suc k) h =
+    let u = blocked_next posts s k p in
+    let r = free_all posts s p k (λ j o e. h j (omega arith) e) in
+    let m = h k (omega arith) in
+    grind (arith, nat_tests, u, r, m)
 
 -- A post counts where it and the earlier posts of its card are in the set.
-pub clear_each : (posts : List Post) (s i : ℕ) → counts posts s i ≡ true → (j : ℕ) → j < length posts → j ≤ i → (post_at posts j).card ≡ (post_at posts i).card → has s (post_at posts j).note ≡ true
-clear_each posts s i h j l o e =
-    let p = (post_at posts i).card in
-    let t = passes_below (λ x. not (x.card == p) || has s x.note) posts (post_of 0 0) (i + 1) h j l (omega arith) in
-    let q = eq-eqb _ _ e in
-    ⊎_elim (λ y. absurd (both_ways _ (not-true _ y) q)) (λ y. y) (or_cases _ _ t)
+clear_each : (posts : List Post) (s i : ℕ) → (post_at posts i).card < 32 → counts posts s i ≡ true → (j : ℕ) → j ≤ i → (post_at posts j).card ≡ (post_at posts i).card → has s (post_at posts j).note ≡ true
+clear_each posts s i l h j o e =
+    let t = and_parts _ _ h in
+    ⊎_elim (λ q. ap (λ k. has s (post_at posts k).note) q ∙ t.0) (λ q. free_each posts s _ i l (not-true _ t.1) j (omega (arith, q)) e) (cases_eq j i)
 
-pub clear_all : (posts : List Post) (s i : ℕ) → ((j : ℕ) → j < length posts → j ≤ i → (post_at posts j).card ≡ (post_at posts i).card → has s (post_at posts j).note ≡ true) → counts posts s i ≡ true
-clear_all posts s i h =
-    let p = (post_at posts i).card in
-    below_passes (λ x. not (x.card == p) || has s x.note) posts (post_of 0 0) (i + 1)
-    (λ j l o.
-    ⊎_elim (λ t. or_right _ _ (h j l (omega arith) (eqb-true _ _ t))) (λ f. or_left _ _ (not_from_false _ f)) (cases_Bool ((post_at posts j).card == p)))
+pub clear_all : (posts : List Post) (s i : ℕ) → ((j : ℕ) → j ≤ i → (post_at posts j).card ≡ (post_at posts i).card → has s (post_at posts j).note ≡ true) → counts posts s i ≡ true
+clear_all posts s i h = and_from _ _ (h i (omega arith) refl) (not_from_false _ (free_all posts s _ i (λ j o e. h j (omega arith) e)))
 
 -- Where a note that counts stands in the table.
 pub record Counted (posts : List Post) (s k m : ℕ) : Type 0 where
@@ -78,64 +98,72 @@ place_counted posts s (suc k) m c =
     (cases_eq c.place k)
 
 -- Two sets with the same notes, by two implications.
-pub same_notes : (s t : ℕ) → ((m : ℕ) → has s m ≡ true → has t m ≡ true) → ((m : ℕ) → has t m ≡ true → has s m ≡ true) → s ≡ t
+same_notes : (s t : ℕ) → ((m : ℕ) → has s m ≡ true → has t m ≡ true) → ((m : ℕ) → has t m ≡ true → has s m ≡ true) → s ≡ t
 same_notes s t f g = same_sets s t (λ m. let a = f m in let b = g m in grind (arith, nat_tests, a, b))
-
--- Note m and all earlier posts of its poster are in s, by the place where m counts.
-each_held : (posts : List Post) (s m : ℕ) (c : Counted posts s (length posts) m) (j : ℕ) → j ≤ c.place → (post_at posts j).card ≡ (post_at posts c.place).card → has s (post_at posts j).note ≡ true
-each_held posts s m c j = let l = c.below in λ o e. clear_each posts s c.place c.counts j (omega arith) o e
 
 -- What counts is in the set.
 pub counted_held : (posts : List Post) (s m : ℕ) → has (in_turn posts s) m ≡ true → has s m ≡ true
-counted_held posts s m h = let c = counted_place posts s (length posts) m h in ap (has s) (sym c.note) ∙ each_held posts s m c c.place (omega arith) refl
-
--- What is in turn in s counts in t, if t holds enough.
-pub counts_in : (posts : List Post) (s t m : ℕ) (c : Counted posts s (length posts) m)
-    → ((j : ℕ) → j ≤ c.place → (post_at posts j).card ≡ (post_at posts c.place).card → has t (post_at posts j).note ≡ true) → has (in_turn posts t) m ≡ true
-counts_in posts s t m c f =
-    place_counted posts t (length posts) m
-    (record { place = c.place; below = c.below; note = c.note; small = c.small; counts = clear_all posts t c.place (λ j _. f j) })
+counted_held posts s m h = let c = counted_place posts s (length posts) m h in ap (has s) (sym c.note) ∙ (and_parts _ _ c.counts).0
 
 -- In a greater set no less counts.
 pub in_turn_more : (posts : List Post) (s t : ℕ) → ((m : ℕ) → has s m ≡ true → has t m ≡ true) → (m : ℕ) → has (in_turn posts s) m ≡ true → has (in_turn posts t) m ≡ true
 in_turn_more posts s t f m h =
-    let c = counted_place posts s (length posts) m h in counts_in posts s t m c (λ j o e. f _ (each_held posts s m c j o e))
+    let c = counted_place posts s (length posts) m h in
+    let y = and_parts _ _ c.counts in
+    place_counted posts t (length posts) m
+    (record { place = c.place; below = c.below; note = c.note; small = c.small; counts = and_from _ _ (f _ y.0) (not_from_false _ (blocked_less posts s t _ c.place f (not-true _ y.1))) })
 
--- Where a note counts, the earlier posts of its card count.
-pub earlier_counts : (posts : List Post) (s m : ℕ) → ((i : ℕ) → i < length posts → (post_at posts i).note < 32) → (c : Counted posts s (length posts) m) (j : ℕ) → j ≤ c.place → (post_at posts j).card ≡ (post_at posts c.place).card → has (in_turn posts s) (post_at posts j).note ≡ true
-earlier_counts posts s m small c j o e =
-    let b = c.below in
-    place_counted posts s (length posts) (post_at posts j).note
-    (record { place = j; below = omega arith; note = refl; small = small j (omega arith); counts = clear_all posts s j (λ i _ l f. each_held posts s m c i (omega arith) (f ∙ e)) })
+-- The posts of a carrier: notes and cards are below 32.
+pub record Small (posts : List Post) : Type 0 where
+  pub notes : (i : ℕ) → i < length posts → (post_at posts i).note < 32
+  pub cards : (i : ℕ) → i < length posts → (post_at posts i).card < 32
+
+module _ (posts : List Post) (small : Small posts) (s m : ℕ) (c : Counted posts s (length posts) m) where
+  -- Where a note counts, it and all earlier posts of its poster are in the set, and count.
+  each_held : (j : ℕ) → j ≤ c.place → (post_at posts j).card ≡ (post_at posts c.place).card → has s (post_at posts j).note ≡ true
+  each_held = clear_each posts s c.place (small.cards c.place c.below) c.counts
+
+  pub earlier_counts : (j : ℕ) → j ≤ c.place → (post_at posts j).card ≡ (post_at posts c.place).card → has (in_turn posts s) (post_at posts j).note ≡ true
+  earlier_counts j o e =
+      let b = c.below in
+      place_counted posts s (length posts) (post_at posts j).note
+      (record { place = j; below = omega arith; note = refl; small = small.notes j (omega arith); counts = clear_all posts s j (λ i l f. each_held i (omega arith) (f ∙ e)) })
 
 -- What counts among the notes that count: all of them.
-pub in_turn_again : (posts : List Post) (s : ℕ) → ((i : ℕ) → i < length posts → (post_at posts i).note < 32) → in_turn posts (in_turn posts s) ≡ in_turn posts s
+pub in_turn_again : (posts : List Post) (s : ℕ) → Small posts → in_turn posts (in_turn posts s) ≡ in_turn posts s
 in_turn_again posts s small =
-    same_notes _ _ (counted_held posts (in_turn posts s)) (λ m h. let c = counted_place posts s (length posts) m h in counts_in posts s (in_turn posts s) m c (earlier_counts posts s m small c))
+    same_notes _ _ (counted_held posts (in_turn posts s))
+    (λ m h.
+    let c = counted_place posts s (length posts) m h in
+    place_counted posts (in_turn posts s) (length posts) m
+    (record { place = c.place; below = c.below; note = c.note; small = c.small; counts = clear_all posts (in_turn posts s) c.place (earlier_counts posts small s m c) }))
 
 pub in_turn_none : (posts : List Post) → in_turn posts 0 ≡ 0
 in_turn_none posts = same_notes _ _ (counted_held posts 0) (λ m h. absurd (both_ways _ (has_none m) h))
 
--- The last post of a table counts where all posts of its card are in the set.
-pub last_counts : (posts : List Post) (x : Post) (s : ℕ) → counts (posts ++ (x ∷ [])) s (length posts) ≡ all_held (posts ++ (x ∷ [])) s x.card
-last_counts posts x s =
-    let n = length_push posts x in
-    ap (λ l. all_held l s (post_at (posts ++ (x ∷ [])) (length posts)).card) (take_all (length posts + 1) (posts ++ (x ∷ [])) (omega arith))
-    ∙ ap (λ y. all_held (posts ++ (x ∷ [])) s y.card) (new_place posts x (post_of 0 0))
-
 -- A post more makes no difference to the earlier ones.
-counted_before : (posts : List Post) (x : Post) (s k : ℕ) → k ≤ length posts → counted_of (posts ++ (x ∷ [])) s k ≡ counted_of posts s k
-counted_before posts x s zero l = refl
-counted_before posts x s (suc k) l =
-    let p : post_at (posts ++ (x ∷ [])) k ≡ post_at posts k = old_place posts x (post_of 0 0) k (omega arith) in
-    let c : counts (posts ++ (x ∷ [])) s k ≡ counts posts s k = ap (λ l. all_held l s (post_at (posts ++ (x ∷ [])) k).card) (take-append-le (k + 1) posts (x ∷ []) (omega arith)) ∙ ap (λ y. all_held (take (k + 1) posts) s y.card) p in
-    rw (c, p, counted_before posts x s k (omega arith)) refl
+module _ (posts : List Post) (x : Post) (s : ℕ) where
+  abbrev more : List Post
+  more = posts ++ (x ∷ [])
 
-pub in_turn_push : (posts : List Post) (x : Post) (s : ℕ) → in_turn (posts ++ (x ∷ [])) s ≡ cond (all_held (posts ++ (x ∷ [])) s x.card) (added (in_turn posts s) x.note) (in_turn posts s)
-in_turn_push posts x s =
-    let n : length (posts ++ (x ∷ [])) ≡ suc (length posts) = length_push posts x ∙ omega arith in
-    let p : post_at (posts ++ (x ∷ [])) (length posts) ≡ x = new_place posts x (post_of 0 0) in
-    ap (counted_of (posts ++ (x ∷ [])) s) n ∙ rw (last_counts posts x s, p, counted_before posts x s (length posts) (omega arith)) refl
+  blocked_before : (k : ℕ) → k ≤ length posts → blocked_by more s k ≡ blocked_by posts s k
+  blocked_before zero l = refl
+  blocked_before (suc k) l =
+      let p : post_at more k ≡ post_at posts k = old_place posts x (post_of 0 0) k (omega arith) in
+      rw (p, blocked_before k (omega arith)) refl
+
+  counted_before : (k : ℕ) → k ≤ length posts → counted_of more s k ≡ counted_of posts s k
+  counted_before zero l = refl
+  counted_before (suc k) l =
+      let p : post_at more k ≡ post_at posts k = old_place posts x (post_of 0 0) k (omega arith) in
+      rw (p, blocked_before k (omega arith), counted_before k (omega arith)) refl
+
+  pub in_turn_push : in_turn more s
+      ≡ cond (has s x.note && not (has (blocked_by posts s (length posts)) x.card)) (added (in_turn posts s) x.note) (in_turn posts s)
+  in_turn_push =
+      let n : length more ≡ suc (length posts) = length_push posts x ∙ omega arith in
+      let p : post_at more (length posts) ≡ x = new_place posts x (post_of 0 0) in
+      ap (counted_of more s) n ∙ rw (p, blocked_before (length posts) (omega arith), counted_before (length posts) (omega arith)) refl
 
 -- Sets of 32 bits.
 counted_fits : (posts : List Post) (s k : ℕ) → counted_of posts s k < 2 ^ 32

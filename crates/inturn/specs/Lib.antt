@@ -1,5 +1,4 @@
 pub mod Turns
-pub mod Entries
 pub mod Layers
 pub mod Models
 pub mod Calls

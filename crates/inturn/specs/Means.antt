@@ -11,15 +11,19 @@ use Rattle.inturn.specs.declared.post.Post.{Post}
 use Rattle.inturn.specs.Turns.{post_of, post_at, in_turn, written}
 use Rattle.inturn.specs.Layers.{Layered, shown_in_turn, Agrees, HeldInTurn, InOrder, MadeInTurn}
 use Rattle.inturn.specs.Calls.{Behaviour, in_turn_over}
-use Rattle.inturn.specs.Counts.{counted_place, place_counted, clear_all, earlier_counts, counted_held, in_turn_more, in_turn_none, in_turn_fits}
+use Rattle.inturn.specs.Counts.{counted_place, place_counted, clear_all, Small, earlier_counts, counted_held, in_turn_more, in_turn_none, in_turn_fits}
 use Rattle.inturn.specs.Tables.{agrees_none, agrees_same, agrees_more, room_for_more, in_turn_new, in_turn_kept}
 
 -- What a behaviour means, with what is made and the bound.
 abbrev pub Means : {S : Type 0} → Behaviour S → (S → Type 0) → ℕ → Type 0
 Means b made bound = Meaning b.view made bound b.start b.posting b.carrying b.losing b.crashing b.suspecting
 
-pub small_notes : (posts : List Post) (v : BroadcastView) → Lawful v → Agrees v.poster posts → (i : ℕ) → i < length posts → (post_at posts i).note < 32
-small_notes posts v law a i l = law.posted_notes_below_32 _ (ap is_some (a.posted i l))
+pub small_posts : (posts : List Post) (v : BroadcastView) → Lawful v → Agrees v.poster posts → Small posts
+small_posts posts v law a =
+    record {
+      notes = λ i l. law.posted_notes_below_32 _ (ap is_some (a.posted i l));
+      cards = λ i l. let p = law.posters_are_cards _ _ (a.posted i l) in let n = law.net.few_cards in omega arith;
+    }
 
 lawful_over : (posts : List Post) (v : BroadcastView) → Lawful v → Agrees v.poster posts → Lawful (shown_in_turn posts v)
 lawful_over posts v law a =
@@ -42,7 +46,7 @@ lawful_over posts v law a =
             below = o.1;
             note = ap (λ z. z.note) o.2;
             small = law.posted_notes_below_32 m (ap is_some e);
-            counts = clear_all posts (v.handed c) o.0 (λ j l _ f. same j l f);
+            counts = clear_all posts (v.handed c) o.0 (λ j k f. let l = o.1 in same j (omega arith) f);
           });
     }
 
@@ -71,7 +75,7 @@ module _ (posts : List Post) (v : BroadcastView) (law : Lawful v) (a : Agrees v.
       let e : d.place ≡ b.later = a.once d.place b.later d.below b.in_table (d.note ∙ sym b.later_note) in
       let l = b.order in
       ap (has (in_turn posts (v.handed c))) (sym b.earlier_note)
-      ∙ earlier_counts posts (v.handed c) m (small_notes posts v law a) d b.earlier (omega arith) (b.same_card ∙ ap (λ i. (post_at posts i).card) (sym e))
+      ∙ earlier_counts posts (small_posts posts v law a) (v.handed c) m d b.earlier (omega arith) (b.same_card ∙ ap (λ i. (post_at posts i).card) (sym e))
 
   pub counts_held : (c m : ℕ) → has (in_turn posts (v.handed c)) m ≡ true → HeldInTurn posts (v.handed c) m
   counts_held c m h =
@@ -90,7 +94,7 @@ module _ (posts : List Post) (v : BroadcastView) (law : Lawful v) (a : Agrees v.
         below = o.1;
         note = note;
         small = law.posted_notes_below_32 m some;
-        counts = clear_all posts (v.handed c) o.0 (λ j _ k e.
+        counts = clear_all posts (v.handed c) o.0 (λ j k e.
             ⊎_elim (λ q. ap (λ i. has (v.handed c) (post_at posts i).note) q ∙ ap (has (v.handed c)) note ∙ h.note)
             (λ q. h.earlier_notes _ (record { earlier = j; later = o.0; order = omega (arith, q); in_table = o.1; earlier_note = refl; later_note = note; same_card = e }))
             (cases_eq j o.0));

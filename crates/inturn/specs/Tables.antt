@@ -1,15 +1,12 @@
 -- The table agrees with the posters below.
 use Rattle.std.proofs.Common.{◌≡◌, ℕ, ◌<◌, true, false, cond, eqb, ltb, List, [], ◌∷◌, ◌++◌, length, is_some, Some, None, Option, sym, refl, ap, ◌∙◌, ⊎_elim, arith}
 use Rattle.std.proofs.lemmas.List.{length_push}
-use Rattle.std.proofs.lemmas.Bool.{cases_eq, eq-eqb, cond-true, cond-false, both_ways, ne_eqb, lt-ltb, or_left, cond_both}
-use Rattle.std.proofs.lemmas.Bool.Decides.{nat_tests}
-use Rattle.std.proofs.lemmas.List.Folds.{list_all-append}
-use Rattle.std.specs.Prelude.{◌==◌, ◌||◌, not}
+use Rattle.std.proofs.lemmas.Bool.{cases_eq, eq-eqb, cond-true, cond-false, both_ways, ne_eqb, lt-ltb, or_left, and_left, cond_both}
 use Rattle.notes.specs.Sets.{has, added}
 use Rattle.notes.proofs.Bits.{has_added}
 use Rattle.notes.proofs.Counting.{pigeonhole}
 use Rattle.inturn.specs.declared.post.Post.{Post}
-use Rattle.inturn.specs.Turns.{post_of, post_at, all_held, in_turn, written}
+use Rattle.inturn.specs.Turns.{post_of, post_at, in_turn, written}
 use Rattle.inturn.specs.Pushed.{old_place, new_place, each_place}
 use Rattle.inturn.specs.Layers.{Agrees}
 use Rattle.inturn.specs.Counts.{in_turn_more, in_turn_push}
@@ -75,11 +72,8 @@ module _ (posts : List Post) (p m : ℕ) where
   in_turn_kept s t f k h =
       let still = in_turn_more posts s t f k h in
       ap (λ n. has n k) (in_turn_push posts (post_of p m) t)
-      ∙ cond_both (all_held more t p) (added (in_turn posts t) m) (in_turn posts t) (λ n. has n k ≡ true) (λ _. has_added (in_turn posts t) m k ∙ or_left _ _ still) (λ _. still)
+      ∙ cond_both _ (added (in_turn posts t) m) (in_turn posts t) (λ n. has n k ≡ true) (λ _. has_added (in_turn posts t) m k ∙ or_left _ _ still) (λ _. still)
 
   -- A note that is not handed counts for nothing, and keeps back nothing.
   pub in_turn_new : (s : ℕ) → has s m ≡ false → in_turn more s ≡ in_turn posts s
-  in_turn_new s lacks =
-      let t = list_all-append (λ x. not (x.card == p) || has s x.note) posts (post_of p m ∷ []) in
-      let q = eq-eqb p p refl in
-      in_turn_push posts (post_of p m) s ∙ cond-false (all_held more s p) _ _ (grind (arith, nat_tests, t, q, lacks))
+  in_turn_new s lacks = in_turn_push posts (post_of p m) s ∙ cond-false _ _ _ (and_left _ _ lacks)

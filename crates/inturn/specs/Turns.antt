@@ -1,7 +1,6 @@
 -- Which notes of a set count where each card's posts are taken in the order of posting.
-use Rattle.std.specs.Prelude.{◌≡◌, ℕ, zero, suc, ◌+◌, Bool, cond, not, ◌||◌, List, [], ◌∷◌, ◌++◌, take, length, ◌==◌, nat_lt, slice_index_or}
-use Rattle.std.specs.List.{list_all}
-use Rattle.notes.specs.Sets.{has, added, minus}
+use Rattle.std.specs.Prelude.{ℕ, zero, suc, Bool, cond, not, ◌&&◌, List, [], ◌∷◌, ◌++◌, length, nat_lt, slice_index_or}
+use Rattle.notes.specs.Sets.{has, added}
 use Rattle.inturn.specs.declared.post.Post.{Post}
 
 -- The post of note m by card p.
@@ -16,17 +15,15 @@ post_at posts i = slice_index_or posts i (post_of 0 0)
 abbrev pub written : List Post → ℕ → ℕ → List Post
 written posts p m = cond (nat_lt (length posts) 32) (posts ++ (post_of p m ∷ [])) posts
 
--- Whether s holds the notes of all posts that card p made among these.
-abbrev pub all_held : List Post → ℕ → ℕ → Bool
-all_held posts s p = list_all (λ x. not (x.card == p) || has s x.note) posts
+-- The cards that the first k posts block: each blocks its card where its note is not in s. The cards are a set of numbers, as the notes
+-- are, and no number above 31 is in a set; a carrier has six cards at most.
+abbrev pub blocked_by : List Post → ℕ → ℕ → ℕ
+blocked_by posts s zero = 0
+blocked_by posts s (suc k) = cond (has s (post_at posts k).note) (blocked_by posts s k) (added (blocked_by posts s k) (post_at posts k).card)
 
--- The set n is of the notes that card p posted among these: all of them are in s exactly where nothing of n is missing there.
-pub record Needs (posts : List Post) (p n : ℕ) : Type 0 where
-  pub held : (s : ℕ) → (minus n s == 0) ≡ all_held posts s p
-
--- Whether the post at place i counts: it and all earlier posts of its card are in s.
+-- Whether the post at place i counts: its note is in s, and no earlier post blocks its card.
 abbrev pub counts : List Post → ℕ → ℕ → Bool
-counts posts s i = all_held (take (i + 1) posts) s (post_at posts i).card
+counts posts s i = has s (post_at posts i).note && not (has (blocked_by posts s i) (post_at posts i).card)
 
 -- The notes of the first k posts that count.
 abbrev pub counted_of : List Post → ℕ → ℕ → ℕ

@@ -3,5 +3,3 @@
 
 pub mod log;
 pub mod ranking;
-#[cfg(test)]
-mod tests;

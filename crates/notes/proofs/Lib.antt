@@ -1,3 +1,3 @@
 pub mod Bits
 pub mod Counting
-mod Ranks
+pub mod Ranks

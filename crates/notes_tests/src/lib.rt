@@ -4,6 +4,8 @@
 #[cfg(test)]
 mod label_examples;
 #[cfg(test)]
+mod printing;
+#[cfg(test)]
 mod ranking;
 #[cfg(test)]
 mod sets;

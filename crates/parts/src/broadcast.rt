@@ -1,6 +1,7 @@
 ghost use Rattle.std.specs.Prelude.{◌≡◌, ℕ, Bool, List, length, is_ok, IfOk, if◌then◌else◌, Option};
 ghost use Rattle.std.specs.List.{slice_get};
 ghost use Rattle.parts.specs.Refusals.{post_answer, carry_answer, lose_answer, crash_answer, suspect_answer};
+ghost use Rattle.parts.specs.Cases.{case_of, turned_down_by, post_reasons, carry_reasons, lose_reasons, crash_reasons, suspect_reasons};
 ghost use Rattle.parts.specs.Broadcasting.{broadcast_view, Meaning};
 
 use crate::refusal::Refusal;
@@ -57,22 +58,32 @@ pub trait Broadcast: Sized {
 
     fn post(&mut self, card: usize, note: usize) -> Result<(), Refusal>
         ensures answer { result ≡ post_answer (broadcast_view cards crashed suspects wire work poster handed (state self.old)) card note }
+        ensures case { let v = broadcast_view cards crashed suspects wire work poster handed (state self.old) in
+            case_of result ≡ turned_down_by (post_reasons v card note) }
         ensures after { state self.new ≡ (if is_ok result then posting (state self.old) card note else state self.old) };
 
     fn carry(&mut self, item: usize) -> Result<(), Refusal>
         ensures answer { result ≡ carry_answer (broadcast_view cards crashed suspects wire work poster handed (state self.old)).net item }
+        ensures case { let v = broadcast_view cards crashed suspects wire work poster handed (state self.old) in
+            case_of result ≡ turned_down_by (carry_reasons v.net item) }
         ensures after { state self.new ≡ (if is_ok result then carrying (state self.old) item else state self.old) };
 
     fn lose(&mut self, item: usize) -> Result<(), Refusal>
         ensures answer { result ≡ lose_answer (broadcast_view cards crashed suspects wire work poster handed (state self.old)).net item }
+        ensures case { let v = broadcast_view cards crashed suspects wire work poster handed (state self.old) in
+            case_of result ≡ turned_down_by (lose_reasons v.net item) }
         ensures after { state self.new ≡ (if is_ok result then losing (state self.old) item else state self.old) };
 
     fn crash(&mut self, card: usize) -> Result<(), Refusal>
         ensures answer { result ≡ crash_answer (broadcast_view cards crashed suspects wire work poster handed (state self.old)).net card }
+        ensures case { let v = broadcast_view cards crashed suspects wire work poster handed (state self.old) in
+            case_of result ≡ turned_down_by (crash_reasons v.net card) }
         ensures after { state self.new ≡ (if is_ok result then crashing (state self.old) card else state self.old) };
 
     fn suspect(&mut self, by: usize, card: usize) -> Result<(), Refusal>
         ensures answer { result ≡ suspect_answer (broadcast_view cards crashed suspects wire work poster handed (state self.old)).net by card }
+        ensures case { let v = broadcast_view cards crashed suspects wire work poster handed (state self.old) in
+            case_of result ≡ turned_down_by (suspect_reasons v.net by card) }
         ensures after { state self.new ≡ (if is_ok result then suspecting (state self.old) by card else state self.old) };
 
     fn bound() -> u32

@@ -2,6 +2,7 @@ ghost use Rattle.std.specs.Prelude.{◌≡◌, ℕ, Bool, List, length, is_ok, I
 ghost use Rattle.std.specs.Option.{option_map};
 ghost use Rattle.std.specs.List.{slice_get};
 ghost use Rattle.parts.specs.Refusals.{propose_answer, carry_answer, lose_answer, crash_answer, suspect_answer};
+ghost use Rattle.parts.specs.Cases.{case_of, turned_down_by, propose_reasons, carry_reasons, lose_reasons, crash_reasons, suspect_reasons};
 ghost use Rattle.parts.specs.Deciding.{consensus_view, Meaning};
 
 use crate::refusal::Refusal;
@@ -59,22 +60,32 @@ pub trait Consensus: Sized {
 
     fn propose(&mut self, instance: usize, card: usize, notes: NoteSet) -> Result<(), Refusal>
         ensures answer { result ≡ propose_answer (consensus_view cards crashed suspects wire work proposal decision (state self.old)) instance card notes }
+        ensures case { let v = consensus_view cards crashed suspects wire work proposal decision (state self.old) in
+            case_of result ≡ turned_down_by (propose_reasons v instance card notes) }
         ensures after { state self.new ≡ (if is_ok result then proposing (state self.old) instance card notes else state self.old) };
 
     fn carry(&mut self, item: usize) -> Result<(), Refusal>
         ensures answer { result ≡ carry_answer (consensus_view cards crashed suspects wire work proposal decision (state self.old)).net item }
+        ensures case { let v = consensus_view cards crashed suspects wire work proposal decision (state self.old) in
+            case_of result ≡ turned_down_by (carry_reasons v.net item) }
         ensures after { state self.new ≡ (if is_ok result then carrying (state self.old) item else state self.old) };
 
     fn lose(&mut self, item: usize) -> Result<(), Refusal>
         ensures answer { result ≡ lose_answer (consensus_view cards crashed suspects wire work proposal decision (state self.old)).net item }
+        ensures case { let v = consensus_view cards crashed suspects wire work proposal decision (state self.old) in
+            case_of result ≡ turned_down_by (lose_reasons v.net item) }
         ensures after { state self.new ≡ (if is_ok result then losing (state self.old) item else state self.old) };
 
     fn crash(&mut self, card: usize) -> Result<(), Refusal>
         ensures answer { result ≡ crash_answer (consensus_view cards crashed suspects wire work proposal decision (state self.old)).net card }
+        ensures case { let v = consensus_view cards crashed suspects wire work proposal decision (state self.old) in
+            case_of result ≡ turned_down_by (crash_reasons v.net card) }
         ensures after { state self.new ≡ (if is_ok result then crashing (state self.old) card else state self.old) };
 
     fn suspect(&mut self, by: usize, card: usize) -> Result<(), Refusal>
         ensures answer { result ≡ suspect_answer (consensus_view cards crashed suspects wire work proposal decision (state self.old)).net by card }
+        ensures case { let v = consensus_view cards crashed suspects wire work proposal decision (state self.old) in
+            case_of result ≡ turned_down_by (suspect_reasons v.net by card) }
         ensures after { state self.new ≡ (if is_ok result then suspecting (state self.old) by card else state self.old) };
 
     fn bound() -> u32

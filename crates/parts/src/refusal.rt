@@ -1,5 +1,7 @@
-ghost use Rattle.std.specs.Prelude.{◌≡◌};
-ghost use Rattle.parts.specs.Refusals.{number as number_of};
+ghost use Rattle.std.specs.Prelude.{◌≡◌, ℕ};
+ghost use Rattle.parts.specs.Views.{Net, BroadcastView, ConsensusView};
+ghost use Rattle.parts.specs.Refusals.{number as number_of, post_answer, carry_answer, lose_answer, crash_answer, suspect_answer, propose_answer};
+ghost use Rattle.parts.specs.Cases.{case_of, turned_down_by, post_reasons, carry_reasons, lose_reasons, crash_reasons, suspect_reasons, propose_reasons};
 
 // Why a call is turned down. A refused call changes nothing; where several reasons hold, the first in this order is given.
 #[derive(Clone, Copy, PartialEq, Eq, Debug)]
@@ -33,3 +35,17 @@ impl Refusal {
         self as u32
     }
 }
+
+// Each call is turned down by the first reason that holds against it, in the numbers of the rule. The contract is the
+// theorem; there is nothing to do.
+pub(super) fn first_reason_turns_down()
+    ensures post { (v : BroadcastView) (p m : ℕ)
+        → case_of (post_answer v p m) ≡ turned_down_by (post_reasons v p m) }
+    ensures carry { (v : Net) (i : ℕ) → case_of (carry_answer v i) ≡ turned_down_by (carry_reasons v i) }
+    ensures lose { (v : Net) (i : ℕ) → case_of (lose_answer v i) ≡ turned_down_by (lose_reasons v i) }
+    ensures crash { (v : Net) (p : ℕ) → case_of (crash_answer v p) ≡ turned_down_by (crash_reasons v p) }
+    ensures suspect { (v : Net) (q p : ℕ)
+        → case_of (suspect_answer v q p) ≡ turned_down_by (suspect_reasons v q p) }
+    ensures propose { (v : ConsensusView) (k p s : ℕ)
+        → case_of (propose_answer v k p s) ≡ turned_down_by (propose_reasons v k p s) }
+{}

@@ -1,65 +1,53 @@
 // What the accepted events of a schedule did.
-use crate::outcome::Outcome;
-use entries::event::Event;
+ghost use Rattle.std.specs.Prelude.{◌≡◌, IfOk, filter_map};
+ghost use Rattle.random_schedules.specs.Happened.{accepted, post_of, suspicion_of};
 
-#[derive(Drop)]
-pub(crate) struct Happened {
-    // The poster of each note.
-    posters: [Option<u32>; 32],
-    // Which card suspects which: another table, since it goes by cards and not by notes.
-    suspicions: [[bool; 6]; 6],
-    pub(crate) posts: u32,
+use entries::event::Event;
+use std::alloc::{AllocError, Global};
+use verdicts::evidence::{Post, Suspicion};
+
+// The events that were not refused.
+pub(crate) fn accepted(
+    heap: Global,
+    events: &[Event],
+    refused: &[bool],
+) -> Result<Vec<Event>, AllocError>
+    ensures { IfOk result (λ those. those.items ≡ accepted events.now refused.now) }
+{
+    events
+        .iter()
+        .zip(refused)
+        .filter(|(_, refused)| !**refused)
+        .map(|(event, _)| *event)
+        .collect(heap)
 }
 
-impl Happened {
-    pub(crate) fn of(events: &[Event], outcome: &Outcome) -> Happened {
-        let mut happened = Happened {
-            posters: [None; 32],
-            suspicions: [[false; 6]; 6],
-            posts: 0,
-        };
-        for (event, refused) in events.iter().zip(&outcome.refused) {
-            if !*refused {
-                happened.note(*event);
-            }
-        }
-        happened
+fn post_of(event: &Event) -> Option<Post>
+    ensures { result ≡ post_of event.now }
+{
+    match *event {
+        Event::Post { card, note } => Some(Post { card, note }),
+        _ => None,
     }
+}
 
-    // The two kinds of event that the law asks after; each is noted in a table of its own.
-    fn note(&mut self, event: Event) {
-        match event {
-            Event::Post { card, note } => self.note_post(card, note),
-            Event::Suspect { by, card } => self.note_suspicion(by as usize, card as usize),
-            _ => {}
-        }
+fn suspicion_of(event: &Event) -> Option<Suspicion>
+    ensures { result ≡ suspicion_of event.now }
+{
+    match *event {
+        Event::Suspect { by, card } => Some(Suspicion { by, card }),
+        _ => None,
     }
+}
 
-    fn note_post(&mut self, card: u32, note: u32) {
-        if let Some(poster) = self.posters.get_mut(note as usize) {
-            *poster = Some(card);
-            self.posts = self.posts.saturating_add(1);
-        }
-    }
+pub(crate) fn posts_in(heap: Global, accepted: &[Event]) -> Result<Vec<Post>, AllocError>
+    ensures { IfOk result (λ posts. posts.items ≡ filter_map post_of accepted.now) }
+{
+    accepted.iter().filter_map(post_of).collect(heap)
+}
 
-    fn note_suspicion(&mut self, by: usize, card: usize) {
-        if let Some(suspects) = self
-            .suspicions
-            .get_mut(by)
-            .and_then(|row| row.get_mut(card))
-        {
-            *suspects = true;
-        }
-    }
-
-    pub(crate) fn poster_of(&self, note: u32) -> Option<u32> {
-        self.posters.get(note as usize).copied().flatten()
-    }
-
-    pub(crate) fn suspects(&self, by: usize, card: usize) -> bool {
-        self.suspicions
-            .get(by)
-            .and_then(|row| row.get(card))
-            .is_some_and(|suspects| *suspects)
-    }
+pub(crate) fn suspicions_in(heap: Global, accepted: &[Event]) -> Result<Vec<Suspicion>, AllocError>
+    ensures { IfOk result (λ all. all.items ≡ filter_map suspicion_of accepted.now) }
+{
+    accepted.iter().filter_map(suspicion_of).collect(heap)
 }

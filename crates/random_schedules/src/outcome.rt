@@ -1,21 +1,16 @@
 // What a report says.
 use anyhow::{Context, bail};
 use std::alloc::Global;
+use verdicts::evidence::CardLog;
 
 #[derive(Drop)]
 pub(crate) struct Outcome {
     // Whether each event was refused.
     pub(crate) refused: Vec<bool>,
     // The log of each card, and whether the card is down.
-    pub(crate) logs: Vec<CardLog>,
+    pub(crate) cards: Vec<CardLog>,
     pub(crate) steps: u32,
     pub(crate) at_rest: bool,
-}
-
-#[derive(Drop)]
-pub(crate) struct CardLog {
-    pub(crate) down: bool,
-    pub(crate) notes: Vec<u32>,
 }
 
 fn number_in(field: Option<&str>) -> anyhow::Result<u32> {
@@ -44,13 +39,13 @@ impl Outcome {
     // The cards come in ascending order, so a log's place is its card.
     fn note_log(&mut self, heap: Global, fields: &str) -> anyhow::Result<()> {
         let (card, rest) = fields.split_once(' ').context("a log without its card")?;
-        if number_in(Some(card))? as usize != self.logs.len() {
+        if number_in(Some(card))? as usize != self.cards.len() {
             bail!("the logs are not in the order of the cards");
         }
         let (state, notes) = rest.split_once(' ').unwrap_or((rest, ""));
         let notes = notes_in(heap, notes)?;
         let down = state == "down";
-        self.logs.push(CardLog { down, notes })?;
+        self.cards.push(CardLog { down, notes })?;
         Ok(())
     }
 
@@ -74,7 +69,7 @@ impl Outcome {
 pub(crate) fn read_report(heap: Global, report: &str, events: usize) -> anyhow::Result<Outcome> {
     let mut outcome = Outcome {
         refused: vec![in heap; false; events]?,
-        logs: Vec::new(heap),
+        cards: Vec::new(heap),
         steps: 0,
         at_rest: false,
     };

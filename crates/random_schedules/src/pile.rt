@@ -1,3 +1,5 @@
+ghost use Rattle.std.specs.Prelude.{◌≡◌};
+
 use allack::state::AllAck;
 use board::state::Board;
 use flooding::state::Flooding;
@@ -17,7 +19,11 @@ pub(crate) struct KnownPile {
     pub(crate) proposal_bound: u32,
 }
 
-fn known<B: Broadcast, C: Consensus>(words: &'static str, uniform: bool) -> KnownPile {
+fn known<B: Broadcast, C: Consensus>(words: &'static str, uniform: bool) -> KnownPile
+    ensures uniform { result.uniform ≡ uniform }
+    ensures post_bound { result.post_bound ≡ B.Broadcast.bound }
+    ensures proposal_bound { result.proposal_bound ≡ C.Consensus.bound }
+{
     KnownPile {
         words,
         uniform,

@@ -237,7 +237,7 @@ schedule_back s a =
     ∙ ap (λ r. and_then (map_err events_fault r) (λ e. ended (record { contents = s.contents; notes = noted_at s.contents.kind (place_of (notesPart ++ eventsPart, length (written s))) s.notes; events = e.0 }) e.1)) (ap (λ t. lines_of event_of (length s.events) (t, length (written s))) (sym nothing) ∙ events)
     ∙ (λ i. Ok (record { contents = s.contents; notes = noted_at s.contents.kind (place i) s.notes; events = put_anywhere event_text (place_of (eventsPart ++ [], length (written s))) s.events i }))
 
-not_long : (file : List ℕ) (w : Whole) → schedule_of file ≡ Ok w → length file ≤ 65536
+pub not_long : (file : List ℕ) (w : Whole) → schedule_of file ≡ Ok w → length file ≤ 65536
 not_long file w e =
     ⊎_elim
     (λ y. let z = sym (cond-true (ltb 65536 (length file)) (Err Long) _ y) ∙ e in absurd (grind arith))

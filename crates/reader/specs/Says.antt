@@ -1,14 +1,15 @@
 -- What the answers say of the bytes.
-use Rattle.std.specs.Prelude.{◌≡◌, ℕ, ◌<◌, List, [], ◌∷◌, ◌++◌, length, take, Ok, Err, Result, ◌≢◌, slice_index_or}
+use Rattle.std.specs.Prelude.{◌≡◌, ℕ, ◌<◌, ◌≤◌, ◌⊎◌, ◌↔◌, List, [], ◌∷◌, ◌++◌, length, take, Some, None, Ok, Err, Option, Result, MatchOption, ◌≢◌, slice_index_or}
 use Rattle.std.specs.List.{AllByRecursion}
 use Rattle.text.specs.declared.fault.LineFault.{LineFault}
-use Rattle.text.specs.Faults.{fault_place}
-use Rattle.text.specs.Parts.{Span, fault_at}
+use Rattle.text.specs.Faults.{fault_place, StartsIn}
+use Rattle.text.specs.Parts.{Span, whole_of, fault_at}
 use Rattle.schedule.specs.declared.contents.Contents.{Contents}
 use Rattle.entries.specs.declared.event.Event.{Event}
 use Rattle.faults.specs.declared.BodyFault.TheVariants.{Notes, Events}
 use Rattle.faults.specs.declared.FileFault.{FileFault}
 use Rattle.faults.specs.declared.FileFault.TheVariants.{Long, Body, Surplus, Contents as InContents}
+use Rattle.faults.specs.Faults.{Case, case_of, Together}
 use Rattle.entries.specs.Written.{event_text, EventAllowed, written_lines, line_itself}
 use Rattle.schedule.specs.Written.{contents_lines, ContentsAllowed, contents_text}
 use Rattle.reader.specs.declared.file.Schedule.{Schedule}
@@ -120,3 +121,30 @@ unfoldable pub ReadSays : List ℕ → Result Schedule Unread → Type 0
 ReadSays file (Ok s) = OnlySchedule file (whole_in s)
 ReadSays file (Err (Fault f)) = FileSays file (Err f)
 ReadSays file (Err NoMemory) = (w : Whole) × OnlySchedule file w
+
+-- What the case of a fault says of a file, in numbers. Its cause is 11, and its place 65536, exactly where the file has more
+-- than 65,536 bytes; any other place is in the file, or its end; a line that is wrong or absent starts there, absent at
+-- the end; bytes that follow the last event stand before it.
+pub record CaseOf (file : List ℕ) (c : Case) : Type 0 where
+  pub together : Together c.cause c.place c.layer
+  pub long : (c.cause ≡ 11) ↔ (65536 < length file)
+  pub within : c.cause ≢ 11 → c.place ≤ length file
+  pub line : MatchOption c.line
+      ((c.cause ≡ 11) ⊎ (c.cause ≡ 14))
+      (λ l. (l.place ≡ c.place) × StartsIn (whole_of file) l)
+  pub surplus : c.cause ≡ 14 → c.place < length file
+
+-- A file that is read has up to 65,536 bytes.
+unfoldable pub CheckCase : List ℕ → Result Contents FileFault → Type 0
+CheckCase file (Ok c) = length file ≤ 65536
+CheckCase file (Err f) = CaseOf file (case_of f)
+
+-- Why nothing was read: a fault, by its case, or want of memory, which has none.
+abbrev pub unread_case : Unread → Option Case
+unread_case (Fault f) = Some (case_of f)
+unread_case NoMemory = None
+
+-- Memory is wanting for a file that could be read.
+unfoldable pub ReadCase : List ℕ → Result Schedule Unread → Type 0
+ReadCase file (Ok s) = length file ≤ 65536
+ReadCase file (Err u) = MatchOption (unread_case u) (length file ≤ 65536) (CaseOf file)

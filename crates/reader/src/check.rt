@@ -3,7 +3,7 @@ ghost use Rattle.std.specs.Prelude.{◌≡◌};
 ghost use Rattle.text.specs.Parts.{part_of};
 ghost use Rattle.entries.specs.Lines.{seen_line, same_value};
 ghost use Rattle.reader.specs.Files.{opening_of, ended, schedule_of, contents_in};
-ghost use Rattle.reader.specs.Says.{CheckSays};
+ghost use Rattle.reader.specs.Says.{CheckSays, CheckCase};
 
 use crate::section::{check_events, check_notes};
 use faults::{BodyFault, FileFault, LONGEST};
@@ -34,10 +34,11 @@ pub(crate) fn ended(rest: Part) -> Result<(), FileFault>
 }
 
 // The contents of a file in which nothing is wrong, or its first fault.
-#[tactic(auto, using(crate::proofs::FileTexts::check_says))]
+#[tactic(auto, using(crate::proofs::FileTexts::check_says, crate::proofs::Cases::check_case))]
 pub fn check(file: &[u8]) -> Result<Contents, FileFault>
     ensures value { result ≡ contents_in (schedule_of file.now) }
     ensures says { CheckSays file.now result }
+    ensures case { CheckCase file.now result }
 {
     let (contents, rest) = opening(file)?;
     let rest = check_notes(contents.kind, rest, contents.notes).map_err(BodyFault::Notes)?;

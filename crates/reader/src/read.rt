@@ -4,7 +4,7 @@ ghost use Rattle.entries.specs.Events.{event_of};
 ghost use Rattle.text.specs.Parts.{part_of};
 ghost use Rattle.reader.specs.Sections.{notes_of};
 ghost use Rattle.reader.specs.Files.{schedule_of, Holds, NotesHold, EventsHold, Answers};
-ghost use Rattle.reader.specs.Says.{ReadSays};
+ghost use Rattle.reader.specs.Says.{ReadSays, ReadCase};
 
 use crate::check::{check, ended, opening};
 use crate::file::{Notes, Schedule, Unread};
@@ -62,10 +62,11 @@ fn read_whole<'a>(heap: Global, file: &'a [u8]) -> Result<Schedule<'a>, Unread>
 }
 
 // The schedule that the file says, or its first fault; want of memory hides no fault.
-#[tactic(auto, using(crate::proofs::FileLaws::refuses, crate::proofs::FileTexts::read_says))]
+#[tactic(auto, using(crate::proofs::FileLaws::refuses, crate::proofs::FileTexts::read_says, crate::proofs::Cases::read_case))]
 pub fn read<'a>(heap: Global, file: &'a [u8]) -> Result<Schedule<'a>, Unread>
     ensures value { Answers result (schedule_of file.now) }
     ensures says { ReadSays file.now result }
+    ensures case { ReadCase file.now result }
 {
     match read_whole(heap, file) {
         // Without memory the first fault is said all the same, if the file has one.

@@ -1,5 +1,6 @@
 // Sections: so many lines of one kind.
-ghost use Rattle.std.specs.Prelude.{◌≡◌, ◌+◌, ◌≤◌, [], IfOk, vec_len, vec_capacity};
+ghost use Rattle.std.specs.Prelude.{◌≡◌, ◌+◌, ◌≤◌, [], IfOk, IfErr, vec_len, vec_capacity};
+ghost use Rattle.text.specs.Faults.{DueIn};
 ghost use Rattle.text.specs.Parts.{part_of};
 ghost use Rattle.entries.specs.Lines.{lines_of};
 ghost use Rattle.entries.specs.Events.{event_of};
@@ -64,10 +65,11 @@ pub(crate) fn read_lines<'a, T: OneLine<'a> + Drop>(
 }
 
 // What follows so many lines of notes, or the first line that says none. Each arm reads lines of another type.
-#[tactic(auto, using(crate::proofs::FileTexts::notes_say))]
+#[tactic(auto, using(crate::proofs::FileTexts::notes_say, crate::proofs::Cases::wears_due, crate::proofs::Cases::labels_due))]
 pub fn check_notes<'a>(kind: NoteKind, rest: Part<'a>, count: u32) -> Result<Part<'a>, LineFault>
     ensures value { end_seen result ≡ end_of (notes_of kind count (part_of rest.entry)) }
     ensures says { SectionSays (note_text kind) (NoteAllowed kind) count (part_of rest.entry) (end_seen result) }
+    ensures case { IfErr result (DueIn (part_of rest.entry)) }
 {
     match kind {
         NoteKind::Wear => check_lines::<Wear>(rest, count),
@@ -76,10 +78,11 @@ pub fn check_notes<'a>(kind: NoteKind, rest: Part<'a>, count: u32) -> Result<Par
 }
 
 // What follows so many lines of events, or the first line that says none.
-#[tactic(auto, using(crate::proofs::FileTexts::events_say))]
+#[tactic(auto, using(crate::proofs::FileTexts::events_say, crate::proofs::Cases::events_due))]
 pub fn check_events<'a>(rest: Part<'a>, count: u32) -> Result<Part<'a>, LineFault>
     ensures value { end_seen result ≡ end_of (lines_of event_of count (part_of rest.entry)) }
     ensures says { SectionSays event_text EventAllowed count (part_of rest.entry) (end_seen result) }
+    ensures case { IfErr result (DueIn (part_of rest.entry)) }
 {
     check_lines::<Event>(rest, count)
 }

@@ -1,1 +1,1 @@
-mod Ranks
+mod Labels

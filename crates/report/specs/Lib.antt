@@ -1,2 +1,3 @@
 pub mod Stacks
 pub mod Reports
+pub mod Long

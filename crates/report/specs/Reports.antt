@@ -1,12 +1,9 @@
 -- The report of a schedule file.
-use Rattle.std.specs.Prelude.{ℕ, Bool, List, [], ◌∷◌, map, length, Ok, Err, codes, Result}
-use Rattle.labels.specs.Order.{label_before}
-use Rattle.notes.specs.contracts.wear.WearKind.TheImpl.{ghosts as wear_kind}
-use Rattle.faults.specs.Faults.{fault_text}
+use Rattle.std.specs.Prelude.{ℕ, List, [], ◌∷◌, map, length, Ok, Err, Result}
 use Rattle.faults.specs.declared.FileFault.{FileFault}
 use Rattle.reader.specs.Sections.{Noted, wears, labels}
 use Rattle.reader.specs.Files.{Whole, schedule_of}
-use Rattle.logs.specs.Orders.{in_ranking_order}
+use Rattle.listing.specs.Listing.{ranked_notes, fault_line}
 use Rattle.total_order.specs.Carrying.{cards_of}
 use Rattle.event_calls.specs.Calls.{call_of}
 use Rattle.run_report.specs.Lines.{lines_text}
@@ -16,22 +13,13 @@ abbrev pub how_many_notes : Noted → ℕ
 how_many_notes (wears ws) = length ws
 how_many_notes (labels ls) = length ls
 
--- Labels as they were read, each with its place: by their bytes.
-abbrev pub bytes_before : List ℕ × ℕ → List ℕ × ℕ → Bool
-bytes_before a b = label_before a.0 b.0
-
--- The numbers of the notes in ranking order.
-abbrev pub ranked_notes : Noted → List ℕ
-ranked_notes (wears ws) = in_ranking_order wear_kind.precedes ws
-ranked_notes (labels ls) = in_ranking_order bytes_before ls
-
 abbrev pub schedule_report : Whole → List ℕ
 schedule_report s = over_pile (cards_of s.contents.cards (how_many_notes s.notes)) (ranked_notes s.notes) (map call_of s.events) s.contents.pile
 
 -- Of a file with a fault, the fault alone.
 abbrev pub report_from : Result Whole FileFault → List ℕ
 report_from (Ok s) = schedule_report s
-report_from (Err f) = lines_text ((codes "bad" ∷ fault_text f ∷ []) ∷ [])
+report_from (Err f) = lines_text (fault_line f ∷ [])
 
 -- The report of a file.
 abbrev pub report_of : List ℕ → List ℕ

@@ -1,18 +1,17 @@
 // The report of a schedule file: the file's fault, or what its run comes to over the stack that it names.
 #![tactic(auto)]
 
-ghost use Rattle.std.specs.Prelude.{◌≡◌, ℕ, List, [], ◌∷◌, map, length, IfOk, string_bytes, codes};
+ghost use Rattle.std.specs.Prelude.{◌≡◌, ℕ, List, map, length, IfOk, string_bytes};
 ghost use Rattle.labels.specs.Order.{label_of};
-ghost use Rattle.faults.specs.Faults.{fault_text};
 ghost use Rattle.reader.specs.Files.{noted_in, whole_in};
+ghost use Rattle.listing.specs.Listing.{ranked_notes};
 ghost use Rattle.total_order.specs.Carrying.{cards_of};
-ghost use Rattle.run_report.specs.Lines.{lines_text};
 ghost use Rattle.report.specs.Stacks.{over_pile};
-ghost use Rattle.report.specs.Reports.{how_many_notes, ranked_notes, schedule_report, report_of};
+ghost use Rattle.report.specs.Reports.{how_many_notes, schedule_report, report_of};
 
 use crate::stacks::report_on;
 use event_calls::calls_of;
-use faults::FileFault;
+use listing::bad_line;
 use reader::file::{Notes, Schedule, Unread};
 use reader::read::read;
 use runs::Script;
@@ -20,6 +19,7 @@ use schedule::contents::Pile;
 use std::alloc::{AllocError, Global};
 use total_order::call::Call;
 
+pub mod program;
 mod stacks;
 
 // The bytes of the whole report of a file, unless memory is wanting.
@@ -36,18 +36,10 @@ fn report_text(heap: Global, file: &[u8]) -> Result<String, AllocError>
 {
     match read(heap, file) {
         Ok(schedule) => report_schedule(heap, schedule),
-        Err(Unread::Fault(fault)) => report_fault(heap, fault),
+        Err(Unread::Fault(fault)) => bad_line(heap, fault),
         // What was not read for want of memory holds no error of the heap to hand on.
         Err(Unread::NoMemory) => Err(AllocError),
     }
-}
-
-// The cause, the place and the layer of the fault.
-#[tactic(auto, using(crate::proofs::Ranks::fault_words))]
-fn report_fault(heap: Global, fault: FileFault) -> Result<String, AllocError>
-    ensures { IfOk result (λ out. string_bytes out ≡ lines_text ((codes "bad" ∷ fault_text fault ∷ []) ∷ [])) }
-{
-    format!(in heap; "bad {fault}\n")
 }
 
 fn report_schedule(heap: Global, schedule: Schedule<'_>) -> Result<String, AllocError>
@@ -65,7 +57,7 @@ fn report_schedule(heap: Global, schedule: Schedule<'_>) -> Result<String, Alloc
 }
 
 // The notes rank as their kind has it: labels by their bytes, wherever they stand in the file. Each arm has another type of book.
-#[tactic(auto, using(crate::proofs::Ranks::as_many_labels, crate::proofs::Ranks::labels_rank_by_bytes))]
+#[tactic(auto, using(crate::proofs::Labels::as_many_labels, crate::proofs::Labels::labels_rank_by_bytes))]
 fn report_notes(
     heap: Global,
     pile: Pile,

@@ -1,12 +1,9 @@
 -- Batches and waiting notes.
-use Rattle.std.proofs.Common.{◌≡◌, ℕ, zero, suc, ◌+◌, ◌<◌, ◌≤◌, Bool, true, false, cond, ◌&&◌, ◌||◌, eqb, leb, ◌⊎◌, List, [], ◌∷◌, map, length, get_or, filter, sym, refl, ap, ◌∙◌, subst, inl, inr, arith, length-append}
-use Rattle.std.specs.List.{range_with_len}
-use Rattle.std.proofs.lemmas.List.FromFn.{length-map-range_with_len}
+use Rattle.std.proofs.Common.{◌≡◌, ℕ, zero, suc, ◌+◌, ◌<◌, ◌≤◌, Bool, true, false, cond, ◌&&◌, ◌||◌, eqb, ◌⊎◌, List, [], ◌∷◌, length, get_or, filter, sym, refl, ap, ◌∙◌, subst, inl, inr, arith, length-append}
 use Rattle.std.proofs.lemmas.Bool.{eqb-true, eq-eqb, lt-ltb, cases_Bool, or_cases, or_left, or_right, both_ways}
-use Rattle.std.proofs.lemmas.Bool.Decides.{nat_tests}
 use Rattle.notes.specs.Sets.{has, added, how_many}
 use Rattle.notes.proofs.Bits.{has_added}
-use Rattle.logs.specs.Orders.{with_all, note_at, in_ranking_order, RankingOrder}
+use Rattle.logs.specs.Orders.{with_all}
 use Rattle.logs.proofs.Batches.{passing}
 use Rattle.order.specs.Words.{among, NoneTwice}
 use Rattle.order.specs.Views.{Ranks}
@@ -18,7 +15,7 @@ pub record Listed (order : List ℕ) : Type 0 where
   pub all : (m : ℕ) → m < length order → among m order ≡ true
   pub once : NoneTwice order
 
-among_at : (l : List ℕ) (k : ℕ) → k < length l → among (get_or l k 0) l ≡ true
+pub among_at : (l : List ℕ) (k : ℕ) → k < length l → among (get_or l k 0) l ≡ true
 among_at [] k h = absurd (omega arith)
 among_at (x ∷ xs) zero h = or_left (eqb x x) (among x xs) (eq-eqb x x refl)
 among_at (x ∷ xs) (suc k) h = or_right (eqb (get_or xs k 0) x) (among (get_or xs k 0) xs) (among_at xs k (omega arith))
@@ -30,29 +27,13 @@ at_among (x ∷ xs) m h = elim (or_cases (eqb m x) (among m xs) h) [
   | inr i ↦ let r = at_among xs m i in (suc r.0, omega (arith, r.1), r.2)
 ]
 
-apart_once : (l : List ℕ) → ((j k : ℕ) → j < length l → k < length l → get_or l j 0 ≡ get_or l k 0 → j ≡ k) → NoneTwice l
+pub apart_once : (l : List ℕ) → ((j k : ℕ) → j < length l → k < length l → get_or l j 0 ≡ get_or l k 0 → j ≡ k) → NoneTwice l
 apart_once [] h = tt
 apart_once (x ∷ xs) h = (out (cases_Bool (among x xs)), apart_once xs (λ j k lj lk e. let s = h (suc j) (suc k) (omega arith) (omega arith) e in omega arith))
   where
     out : (among x xs ≡ true) ⊎ (among x xs ≡ false) → among x xs ≡ false
     out (inl t) = let r = at_among xs x t in let s = h 0 (suc r.0) (omega arith) (omega (arith, r.1)) (sym r.2) in absurd (omega arith)
     out (inr f) = f
-
-few_ranked : {K : Type 0} (precedes : K → K → Bool) (book : List K) → length (in_ranking_order precedes book) ≤ 32
-unfolding in_ranking_order
-few_ranked precedes book = go (leb (length book) 32) refl
-  where
-    go : (t : Bool) → leb (length book) 32 ≡ t → length (cond t (map (note_at precedes book) (range_with_len 0 (length book))) []) ≤ 32
-    go true e = let l : length book ≤ 32 = grind (arith, nat_tests, e) in omega (arith, l, length-map-range_with_len (note_at precedes book) 0 (length book))
-    go false e = omega arith
-
--- What the ranking promises of the order.
-pub listed : {K : Type 0} (precedes : K → K → Bool) (book : List K) → RankingOrder precedes book (in_ranking_order precedes book) → Listed (in_ranking_order precedes book)
-listed precedes book R = record {
-  few = few_ranked precedes book;
-  all = λ m l. let t = R.each m l in subst (λ x. among x (in_ranking_order precedes book) ≡ true) t.2 (among_at (in_ranking_order precedes book) t.0 t.1);
-  once = apart_once (in_ranking_order precedes book) R.once;
-}
 
 kept_sub : (test : ℕ → Bool) (l : List ℕ) (m : ℕ) → among m (filter test l) ≡ true → (among m l ≡ true) × (test m ≡ true)
 kept_sub test [] m h = absurd (both_ways false refl h)

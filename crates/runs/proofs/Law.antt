@@ -1,5 +1,5 @@
 -- The law over every list of calls.
-use Rattle.std.proofs.Common.{◌≡◌, ℕ, ◌<◌, ◌≤◌, Bool, true, false, cond, not, ◌&&◌, eqb, ltb, List, length, is_some, Some, None, Option, sym, refl, ap, ◌∙◌, arith, Ok, Err, is_ok}
+use Rattle.std.proofs.Common.{◌≡◌, ℕ, ◌<◌, ◌≤◌, Bool, true, false, cond, not, ◌&&◌, eqb, ltb, List, length, is_some, Some, None, Option, sym, refl, ap, ◌∙◌, subst, arith, Ok, Err, is_ok}
 use Rattle.std.proofs.lemmas.List.{nil_from_length}
 use Rattle.std.proofs.lemmas.Bool.{eqb-true, lt-ltb, and_parts, and_from, both_ways, not_from_false, cond-true, cond-false}
 use Rattle.std.proofs.lemmas.Bool.Decides.{nat_tests}
@@ -20,9 +20,12 @@ use Rattle.order.specs.Law as order
 use Rattle.order.proofs.Facts.{one_order}
 use Rattle.total_order.specs.Carrying.{Carrying, fresh, cards_of, card_count, log_at, instance_at, decision_at, waiting, can_take, can_propose, taker, proposer, at_rest}
 use Rattle.total_order.specs.declared.call.Call.{Call}
+use Rattle.total_order.specs.Calls.{Answer}
+use Rattle.runs.specs.declared.Script.{Script}
+use Rattle.runs.specs.Scripts.{cards_in, begun}
 use Rattle.runs.specs.Runs.{left_by, answers_to}
 use Rattle.runs.specs.Tally.{Tally, nothing, tally}
-use Rattle.runs.specs.Law.{Running, AllCrashesSuspected, OneOrder}
+use Rattle.runs.specs.Law.{Running, AllCrashesSuspected, OneOrder, PartsMade, StaysInOrder, OneOrderOfEveryRun, CrashedLogsOfEveryRun}
 use Rattle.runs.proofs.Batches.{Listed}
 use Rattle.runs.proofs.Good.{Means, ledger, Good, good_new, LB, LC, R, few_steps, few_instances, count_is, waiting_is, instance_for_waiting, room_for_decision}
 use Rattle.runs.proofs.Fits.{Fits, fits_calls, steps_bounded, large_settle}
@@ -110,20 +113,47 @@ no_posts : (v : BroadcastView) → ((m : ℕ) → v.poster m ≡ None) → posts
 unfolding posts
 no_posts v e = omega (arith, total_none (λ m. one_if (v.poster m)) 32 (λ m. ap one_if (e m)))
 
-few_cards : (cards notes : ℕ) → cond (ltb 6 (cards_of cards notes)) 0 (cards_of cards notes) ≡ cards_of cards notes
+pub few_cards : (cards notes : ℕ) → cards_of cards notes ≤ 6
 few_cards cards notes = grind (arith, nat_tests)
 
-module _ {X Y : Type 0} (b : Broadcasts X) (c : Consensuses Y) (M : Means b c) (cards notes : ℕ) (order : List ℕ) (L : Listed order) (calls : List Call) where
-  pub run_fits : Fits b c (cards_of cards notes) (tally calls (answers_to b c (fresh b c (cards_of cards notes) order) calls)) (left_by b c (fresh b c (cards_of cards notes) order) calls)
-  run_fits =
-      let k = cards_of cards notes in
-      let P = M.broadcast.new_means k in
-      fits_calls b c M k calls nothing (fresh b c k order) (record {
-        good = good_new b c M k order L;
-        cards = P.net.cards ∙ few_cards cards notes;
+as_many : (n : ℕ) → n ≤ 6 → cond (ltb 6 n) 0 n ≡ n
+as_many n few = grind (arith, nat_tests, few)
+
+module _ {X Y : Type 0} (b : Broadcasts X) (c : Consensuses Y) (M : Means b c) (n : ℕ) (few : n ≤ 6) (order : List ℕ) (L : Listed order) where
+  run_fits : (calls : List Call) → Fits b c n (tally calls (answers_to b c (fresh b c n order) calls)) (left_by b c (fresh b c n order) calls)
+  run_fits calls =
+      let P = M.broadcast.new_means n in
+      fits_calls b c M n calls nothing (fresh b c n order) (record {
+        good = good_new b c M n order L;
+        cards = P.net.cards ∙ as_many n few;
         poster = P.nothing_posted;
         crashed = P.net.no_crash;
         suspects = P.net.no_suspicion;
-        posts = no_posts (shown b (b.start k)) P.nothing_posted;
+        posts = no_posts (shown b (b.start n)) P.nothing_posted;
         steps = refl;
       })
+
+  pub stays_in_order : StaysInOrder b c n (fresh b c n order)
+  stays_in_order = record {
+    order = λ calls. ordered b c M n _ _ (run_fits calls);
+    made = λ calls. let G = (run_fits calls).good in record { broadcast = G.broadcast_made; consensus = G.consensus_made };
+  }
+
+-- The law of what the code leaves and answers, where that is what the definitions give.
+module _ {X Y K : Type 0} (b : Broadcasts X) (c : Consensuses Y) (precedes : K → K → Bool) (law : OneOrderOfEveryRun b c precedes) (script : Script K) where
+  pub order_answered : (end : Carrying b c) (answers : List Answer) → end ≡ left_by b c (begun b c precedes script) script.calls.now
+      → answers ≡ answers_to b c (begun b c precedes script) script.calls.now
+      → OneOrder b c (cards_in script) (tally script.calls.now answers) end
+  order_answered end answers left told =
+      subst (λ us. OneOrder b c (cards_in script) (tally script.calls.now us) end) (sym told)
+      (subst (OneOrder b c (cards_in script) (tally script.calls.now (answers_to b c (begun b c precedes script) script.calls.now))) (sym left)
+      ((law script.cards script.book.now).order script.calls.now))
+
+  pub made_answered : (end : Carrying b c) → end ≡ left_by b c (begun b c precedes script) script.calls.now → PartsMade b c end
+  made_answered end left = subst (PartsMade b c) (sym left) ((law script.cards script.book.now).made script.calls.now)
+
+pub crashed_logs : {X Y K : Type 0} (b : Broadcasts X) (c : Consensuses Y) (precedes : K → K → Bool) → OneOrderOfEveryRun b c precedes → CrashedLogsOfEveryRun b c precedes
+crashed_logs b c precedes law agrees cards book calls rest suspected =
+    let run = law cards book in
+    let order = run.order calls in
+    order.crashed_logs_where_agreed (agrees _ (run.made calls).broadcast (order.broadcast_quiet_at_rest rest suspected)) rest suspected

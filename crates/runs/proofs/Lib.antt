@@ -1,4 +1,5 @@
 mod Batches
 mod Good
 mod Fits
+mod Ranked
 mod Law

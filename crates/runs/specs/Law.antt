@@ -1,5 +1,5 @@
 -- The law of the order, over every list of calls on a new carrier.
-use Rattle.std.specs.Prelude.{◌≡◌, ℕ, ◌+◌, ◌<◌, ◌≤◌, true, false, ◌⊎◌, [], length, Some, count_ones}
+use Rattle.std.specs.Prelude.{◌≡◌, ℕ, ◌+◌, ◌<◌, ◌≤◌, Bool, true, false, ◌⊎◌, List, [], length, Some, count_ones}
 use Rattle.notes.specs.Sets.{has}
 use Rattle.parts.specs.Views.{Quiet}
 use Rattle.parts.specs.Broadcasting.{UniformAgreement}
@@ -8,8 +8,12 @@ use Rattle.parts.specs.Shown.{shown, told}
 use Rattle.parts.specs.declared.broadcast.Broadcast.{Ghosts as Broadcasts}
 use Rattle.parts.specs.declared.consensus.Consensus.{Ghosts as Consensuses}
 use Rattle.order.specs.Words.{among, NoneTwice, Begins, step_bound}
-use Rattle.total_order.specs.Carrying.{Carrying, log_at, instance_at, decision_at, waiting, at_rest, settled}
-use Rattle.runs.specs.Tally.{Tally}
+use Rattle.logs.specs.Orders.{in_ranking_order}
+use Rattle.total_order.specs.Carrying.{Carrying, fresh, cards_of, log_at, instance_at, decision_at, waiting, at_rest, settled}
+use Rattle.total_order.specs.declared.call.Call.{Call}
+use Rattle.runs.specs.Scripts.{new_carrier}
+use Rattle.runs.specs.Runs.{left_by, answers_to}
+use Rattle.runs.specs.Tally.{Tally, tally}
 
 -- Card p is one of n, and no accepted call made it crash.
 pub record Running (n : ℕ) (t : Tally) (p : ℕ) : Type 0 where
@@ -51,3 +55,35 @@ pub record OneOrder {X Y : Type 0} (b : Broadcasts X) (c : Consensuses Y) (n : �
   -- Rest under full suspicion is quiet for the broadcast; and where what it has handed agrees uniformly, crashed logs begin running ones.
   pub broadcast_quiet_at_rest : at_rest b c s ≡ true → AllCrashesSuspected n t → Quiet (shown b s.broadcast).net
   pub crashed_logs_where_agreed : UniformAgreement (shown b s.broadcast) → CrashedLogsBeginRunningOnes b c n t s
+
+-- Both parts are such as `new` and their calls make, so that all that their interfaces say of those holds whatever is called next.
+pub record PartsMade {X Y : Type 0} (b : Broadcasts X) (c : Consensuses Y) (s : Carrying b c) : Type 0 where
+  pub broadcast : b.made s.broadcast
+  pub consensus : c.made s.consensus
+
+-- Whatever is called on the carrier s, which has n cards, the one order holds of what the calls leave, by what they tell.
+pub record StaysInOrder {X Y : Type 0} (b : Broadcasts X) (c : Consensuses Y) (n : ℕ) (s : Carrying b c) : Type 0 where
+  pub order : (calls : List Call) → OneOrder b c n (tally calls (answers_to b c s calls)) (left_by b c s calls)
+  pub made : (calls : List Call) → PartsMade b c (left_by b c s calls)
+
+-- What a uniform broadcast says in its yes, of each state that its calls make.
+abbrev pub AgreesWhereQuiet : {X : Type 0} → Broadcasts X → Type 0
+AgreesWhereQuiet b = (x : b.State) → b.made x → Quiet (shown b x).net → UniformAgreement (shown b x)
+
+module _ {X Y K : Type 0} (b : Broadcasts X) (c : Consensuses Y) (precedes : K → K → Bool) where
+  -- A new carrier with at most six cards, and whatever book, stays in order.
+  abbrev pub NewStaysInOrder : Type 0
+  NewStaysInOrder = (n : ℕ) (book : List K) → n ≤ 6 → StaysInOrder b c n (fresh b c n (in_ranking_order precedes book))
+
+  -- The order law of every run: whatever number of cards is asked for, whatever the book and the calls.
+  abbrev pub OneOrderOfEveryRun : Type 0
+  OneOrderOfEveryRun =
+      (cards : ℕ) (book : List K) → StaysInOrder b c (cards_of cards (length book)) (new_carrier b c precedes cards book)
+
+  -- Over a uniform broadcast crashed logs begin running ones in every run.
+  abbrev pub CrashedLogsOfEveryRun : Type 0
+  CrashedLogsOfEveryRun =
+      AgreesWhereQuiet b → (cards : ℕ) (book : List K) (calls : List Call)
+      → CrashedLogsBeginRunningOnes b c (cards_of cards (length book))
+      (tally calls (answers_to b c (new_carrier b c precedes cards book) calls))
+      (left_by b c (new_carrier b c precedes cards book) calls)

@@ -1,6 +1,7 @@
 -- The contents that are read are those that stand there, and none stand where they are refused.
 use Rattle.std.proofs.Common.{◌≡◌, ℕ, ◌<◌, false, List, [], ◌∷◌, ◌++◌, get_or, take, Ok, Err, codes, Option, Result, sym, refl, ap, ◌∙◌, subst, append_assoc, arith}
 use Rattle.text.specs.declared.fault.LineFault.{LineFault}
+use Rattle.text.specs.Faults.{DueIn}
 use Rattle.text.specs.Parts.{Span, fault_at}
 use Rattle.schedule.specs.declared.contents.NoteKind.{NoteKind}
 use Rattle.schedule.specs.declared.contents.NoteKind.TheVariants.{Wear}
@@ -14,6 +15,7 @@ use Rattle.schedule.specs.Contents.{kind_of, count_of, pile_of, contents_of}
 use Rattle.entries.specs.Written.{ReadsWritten, anywhere, written_lines, line_itself}
 use Rattle.schedule.specs.Written.{Always, Between, kind_text, count_text, pile_text, contents_lines, ContentsAllowed, contents_text}
 use Rattle.schedule.specs.Says.{ContentsStop, ContentsSays}
+use Rattle.entries.proofs.DueLaws.{due_at}
 use Rattle.entries.proofs.RuleLaws.{one_only, one_back, one_fault, one_due}
 use Rattle.schedule.proofs.ContentsLaws.{kind_reads, cards_read, pile_reads, notes_read, events_read}
 
@@ -173,3 +175,10 @@ says_with p (Err f) e w = (
 
 pub contents_say : (p : Span) (r : Result (Contents × Span) LineFault) → r ≡ contents_of p → ContentsSays p r
 contents_say p r e = says_with p r e (subst (Whole p) (sym e) (contents_whole p))
+
+due_with : (p : Span) (f : LineFault) → ContentsSays p (Err f) → DueIn p f
+unfolding ContentsSays
+due_with p f s = due_at p (written_lines line_itself (take s.0.lines (contents_lines s.0.sofar))) s.0.tail f s.0.stands s.0.fault
+
+pub contents_due : (p : Span) (f : LineFault) → Err f ≡ contents_of p → DueIn p f
+contents_due p f e = due_with p f (contents_say p (Err f) e)

@@ -1,6 +1,7 @@
 // Reading the contents.
-ghost use Rattle.std.specs.Prelude.{◌≡◌};
+ghost use Rattle.std.specs.Prelude.{◌≡◌, IfErr};
 ghost use Rattle.std.specs.Range.{range_inclusive_start, range_inclusive_end};
+ghost use Rattle.text.specs.Faults.{DueIn};
 ghost use Rattle.text.specs.Parts.{part_of};
 ghost use Rattle.text.specs.Fields.{field_of};
 ghost use Rattle.schedule.specs.declared.contents.NoteKind.{NoteKind as KindType};
@@ -136,10 +137,11 @@ fn count_line<'a>(
 
 impl Contents {
     // The contents that stand first, and what follows them, or the first line that is wrong.
-    #[tactic(auto, using(crate::proofs::ContentsWhole::contents_say))]
+    #[tactic(auto, using(crate::proofs::ContentsWhole::contents_say, crate::proofs::ContentsWhole::contents_due))]
     pub fn read<'a>(file: Part<'a>) -> Result<(Contents, Part<'a>), LineFault>
         ensures value { seen_line same_value result ≡ contents_of (part_of file.entry) }
         ensures says { ContentsSays (part_of file.entry) (seen_line same_value result) }
+        ensures case { IfErr result (DueIn (part_of file.entry)) }
     {
         let (kind, rest) = first_line(file)?;
         let (cards, rest) = count_line(rest, b"cards", 1..=6)?;

@@ -22,6 +22,26 @@ pub(crate) fn longest(heap: Global) -> Result<String, AllocError> {
     )
 }
 
+// A file of so many cards, notes and events.
+pub(crate) fn extreme(
+    heap: Global,
+    kind: &str,
+    cards: u32,
+    note_count: usize,
+    event_count: usize,
+) -> Result<String, AllocError> {
+    let note = if kind == "label" {
+        "12345678\n"
+    } else {
+        "4294967295 4294967295\n"
+    };
+    let notes = note.repeat(heap, note_count)?;
+    let events = "s 65535 65535\n".repeat(heap, event_count)?;
+    format!(in heap;
+        "kind {kind}\ncards {cards}\npile board register\nnotes {note_count}\nevents {event_count}\n{notes}{events}"
+    )
+}
+
 // A file with so many bytes 10 after it.
 pub(crate) fn padded(heap: Global, file: &[u8], more: usize) -> Result<Vec<u8>, AllocError> {
     let mut out = Vec::from_slice(heap, file)?;

@@ -5,10 +5,11 @@ mod files;
 mod table;
 
 use faults::{BodyFault, FileFault};
-use files::{BASE, longest, padded, spoiled};
+use files::{BASE, extreme, longest, padded, spoiled};
 use reader::file::{Notes, Schedule, Unread};
 use reader::read::read;
-use std::io;
+use std::alloc::{AllocError, Global};
+use std::{fmt, io};
 use table::unescaped;
 use text::fault::LineFault;
 
@@ -24,7 +25,15 @@ fn manner(fault: FileFault) -> &'static str {
     }
 }
 
-// A short schedule is shown whole.
+// Notes or events as a file has them.
+fn report_lines<T: fmt::Display>(rt: &HostRuntime, things: &[T]) -> io::Result<()> {
+    for thing in things {
+        println!(rt; "  | {thing}")?;
+    }
+    Ok(())
+}
+
+// A short schedule is shown whole, and then as it is written.
 fn report_schedule(rt: &HostRuntime, name: &str, schedule: Schedule) -> io::Result<()> {
     let Schedule {
         contents,
@@ -39,10 +48,17 @@ fn report_schedule(rt: &HostRuntime, name: &str, schedule: Schedule) -> io::Resu
     println!(rt; "  {contents:?}")?;
     // Each arm prints notes of another type.
     match notes {
-        Notes::Wears(wears) => println!(rt; "  {wears:?}")?,
-        Notes::Labels(labels) => println!(rt; "  {labels:?}")?,
+        Notes::Wears(wears) => {
+            println!(rt; "  {wears:?}")?;
+            report_lines(rt, &wears)?;
+        }
+        Notes::Labels(labels) => {
+            println!(rt; "  {labels:?}")?;
+            report_lines(rt, &labels)?;
+        }
     }
-    println!(rt; "  {events:?}")
+    println!(rt; "  {events:?}")?;
+    report_lines(rt, &events)
 }
 
 fn report(rt: &HostRuntime, name: &str, file: &[u8]) -> io::Result<()> {
@@ -107,9 +123,58 @@ fn report_long(rt: &HostRuntime) -> io::Result<()> {
     Ok(())
 }
 
+// Whether the file reads, with so many notes and events.
+fn reads(heap: Global, file: &[u8], note_count: usize, event_count: usize) -> bool {
+    let Ok(Schedule { notes, events, .. }) = read(heap, file) else {
+        return false;
+    };
+    let noted = match notes {
+        Notes::Wears(wears) => wears.len(),
+        Notes::Labels(labels) => labels.len(),
+    };
+    noted == note_count && events.len() == event_count
+}
+
+// With how many numbers of cards, of 1 to 6, a file of these notes and events reads.
+fn cards_read(
+    heap: Global,
+    kind: &str,
+    note_count: usize,
+    event_count: usize,
+) -> Result<u32, AllocError> {
+    let mut good = 0u32;
+    for cards in 1..=6 {
+        let file = extreme(heap, kind, cards, note_count, event_count)?;
+        if reads(heap, file.as_bytes(), note_count, event_count) {
+            good = good.saturating_add(1);
+        }
+    }
+    Ok(good)
+}
+
+// How many files of these notes read, with few and with many events.
+fn report_extreme(rt: &HostRuntime, kind: &str, note_count: usize) -> io::Result<()> {
+    let mut good = 0u32;
+    for event_count in [0, 1, 31, 999, 1000, 1001, 4096] {
+        let more = cards_read(rt.alloc(), kind, note_count, event_count)?;
+        good = good.saturating_add(more);
+    }
+    println!(rt; "{note_count} notes of kind {kind}: {good} of 42 files read")
+}
+
+// The smallest and the largest books and schedules, and some beside them. A `for`, as each turn may fail.
+fn report_extremes(rt: &HostRuntime) -> io::Result<()> {
+    for note_count in [0, 1, 31, 32] {
+        report_extreme(rt, "wear", note_count)?;
+        report_extreme(rt, "label", note_count)?;
+    }
+    Ok(())
+}
+
 fn main(rt: HostRuntime) -> io::Result<()> {
     report_table(&rt)?;
     report_cuts(&rt)?;
     report_spoiled(&rt)?;
-    report_long(&rt)
+    report_long(&rt)?;
+    report_extremes(&rt)
 }

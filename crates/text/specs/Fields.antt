@@ -1,10 +1,11 @@
 -- Fields: numbers, words and labels.
-use Rattle.std.specs.Prelude.{ℕ, zero, suc, Bool, false, cond, List, [], ◌∷◌, Some, None, Option, nat_le}
+use Rattle.std.specs.Prelude.{◌≡◌, ℕ, zero, suc, ◌-◌, ◌≤◌, Bool, false, cond, List, [], ◌∷◌, length, Some, None, Option, nat_le}
+use Rattle.std.specs.List.{AllByRecursion}
 use Rattle.std.specs.Option.{option_map}
 use Rattle.std.specs.Str.{bytes_eq}
-use Rattle.labels.specs.Order.{is_label}
+use Rattle.labels.specs.Order.{label_of, is_label}
 use Rattle.text.specs.declared.field.Field.{Field}
-use Rattle.text.specs.declared.field.Field.TheVariants.{Number, Word}
+use Rattle.text.specs.declared.field.Field.TheVariants.{Number, Word, Label}
 use Rattle.text.specs.declared.field.Fields.{Fields}
 use Rattle.text.specs.declared.field.Fields.TheVariants.{One, Two, Three, Four, More}
 use Rattle.text.specs.Numbers.{numeral}
@@ -19,6 +20,7 @@ pub data Cut : Type 0 where
 abbrev pub field_of : Field → Cut
 field_of (Number n) = number n
 field_of (Word w) = word (part_of w).0 (place_of (part_of w))
+field_of (Label l) = label (label_of l).0 (label_of l).1
 
 -- up to four fields
 abbrev pub fields_of : Fields → Option (List Cut)
@@ -36,8 +38,20 @@ number_or p (Some n) = number n
 abbrev pub read_field : Span → Cut
 read_field p = number_or p (numeral p.0)
 
-abbrev pub read_label : Span → Option Cut
-read_label p = cond (is_label p.0) (Some (label p.0 (place_of p))) None
+-- Bytes that are not cut at their spaces are a label, if they can be one; others are a word.
+abbrev pub read_uncut : Span → Cut
+read_uncut p = cond (is_label p.0) (label p.0 (place_of p)) (word p.0 (place_of p))
+
+-- one to eight bytes, each of 32 to 126
+abbrev pub LabelBytes : List ℕ → Type 0
+LabelBytes bs = (1 ≤ length bs) × (length bs ≤ 8) × AllByRecursion (λ b. (32 ≤ b) × (b ≤ 126)) bs
+
+-- A field that is not cut is all the bytes of its part, and starts where they start. It is a label exactly if these
+-- are the bytes of one.
+unfoldable pub UncutSays : Span → Cut → Type 0
+UncutSays p (number n) = ⊥
+UncutSays p (word bs place) = (bs ≡ p.0) × (place ≡ p.1 - length p.0) × (LabelBytes p.0 → ⊥)
+UncutSays p (label bs place) = (bs ≡ p.0) × (place ≡ p.1 - length p.0) × LabelBytes p.0
 
 abbrev pub fields_after : Cut → (Span → Option (List Cut)) → Option Span → Option (List Cut)
 fields_after f more None = Some (f ∷ [])
@@ -69,3 +83,9 @@ abbrev pub is_word : List ℕ → Cut → Bool
 is_word w (number n) = false
 is_word w (word bs place) = bytes_eq bs w
 is_word w (label bs place) = false
+
+-- the label that a field is, as its bytes and the place where they start
+abbrev pub label_in : Cut → Option (List ℕ × ℕ)
+label_in (number n) = None
+label_in (word bs place) = None
+label_in (label bs place) = Some (bs, place)

@@ -3,19 +3,22 @@ ghost use Rattle.std.specs.Prelude.{◌≡◌};
 ghost use Rattle.std.specs.Option.{option_map};
 ghost use Rattle.labels.specs.Order.{label_of};
 ghost use Rattle.text.specs.Parts.{part_of};
-ghost use Rattle.text.specs.Fields.{label, field_of, fields_of, read_field, read_label, cut_fields, number_in, letter_in, is_word};
+ghost use Rattle.text.specs.Fields.{field_of, fields_of, read_field, read_uncut, UncutSays};
+ghost use Rattle.text.specs.Fields.{cut_fields, number_in, letter_in, is_word, label_in};
 
 use crate::number::number;
 use crate::part::Part;
 use labels::Label;
 
-// A word is a part of the file, which knows its place.
+// A word and a label are parts of the file, each with its place.
 #[derive(Clone, Copy, Debug)]
 pub enum Field<'a> {
     // Decimal digits of a number of up to 32 bits, without leading zeros.
     Number(u32),
     // Anything else between spaces, even nothing.
     Word(Part<'a>),
+    // One to eight bytes of 32 to 126, spaces among them: a line that is not cut.
+    Label(Label<'a>),
 }
 
 // The fields of a line; no line of a schedule has more than four. An enum and no list: a line is told by how many it has.
@@ -39,11 +42,16 @@ impl<'a> Part<'a> {
         }
     }
 
-    // The part as one label, if it is one: its spaces belong to it.
-    pub fn label(self) -> Option<Label<'a>>
-        ensures { option_map (λ l. label (label_of l).0 (label_of l).1) result ≡ read_label (part_of self.entry) }
+    // The part as one field to which its spaces belong: a label, or else a word.
+    #[tactic(auto, using(crate::proofs::UncutLaws::label_says))]
+    pub fn uncut_field(self) -> Field<'a>
+        ensures value { field_of result ≡ read_uncut (part_of self.entry) }
+        ensures says { UncutSays (part_of self.entry) (field_of result) }
     {
-        Label::new(self.bytes(), self.place())
+        match Label::new(self.bytes(), self.place()) {
+            Some(label) => Field::Label(label),
+            None => Field::Word(self),
+        }
     }
 
     // The fields that single spaces part. Each number of them is a variant of its own, so each cut has its own answer.
@@ -70,14 +78,14 @@ impl<'a> Part<'a> {
     }
 }
 
-impl Field<'_> {
+impl<'a> Field<'a> {
     // The number that the field is, if it is not above `most`.
     pub fn number(self, most: u32) -> Option<u32>
         ensures { result ≡ number_in most (field_of self.entry) }
     {
         match self {
             Field::Number(value) if value <= most => Some(value),
-            Field::Number(_) | Field::Word(_) => None,
+            Field::Number(_) | Field::Word(_) | Field::Label(_) => None,
         }
     }
 
@@ -90,7 +98,7 @@ impl Field<'_> {
                 [byte] => Some(char::from(*byte)),
                 _ => None,
             },
-            Field::Number(_) => None,
+            Field::Number(_) | Field::Label(_) => None,
         }
     }
 
@@ -99,5 +107,14 @@ impl Field<'_> {
         ensures { result ≡ is_word word.now (field_of self.entry) }
     {
         matches!(self, Field::Word(part) if part.bytes() == word)
+    }
+    // The label that the field is.
+    pub fn label(self) -> Option<Label<'a>>
+        ensures { option_map label_of result ≡ label_in (field_of self.entry) }
+    {
+        match self {
+            Field::Label(label) => Some(label),
+            Field::Number(_) | Field::Word(_) => None,
+        }
     }
 }

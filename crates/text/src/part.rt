@@ -1,7 +1,8 @@
 // Parts of a file, and cutting them: at a byte, and into lines.
-ghost use Rattle.std.specs.Prelude.{◌≡◌, ◌≤◌, length, position, ◌==◌};
+ghost use Rattle.std.specs.Prelude.{◌≡◌, ◌≤◌, length, position, IfErr, ◌==◌};
 ghost use Rattle.std.specs.Option.{option_map};
 ghost use Rattle.text.specs.Parts.{part_of, place_of, up_to, whole_of, before, after, both_of, line_of};
+ghost use Rattle.text.specs.Faults.{DueIn};
 
 use crate::fault::LineFault;
 
@@ -58,8 +59,10 @@ impl<'a> Part<'a> {
     }
 
     // The first line, without the byte that ends it, and what follows.
+    #[tactic(auto, unfolding(crate::specs::Faults::DueIn))]
     pub fn line(self) -> Result<(Part<'a>, Part<'a>), LineFault>
-        ensures { both_of result ≡ line_of (part_of self.entry) }
+        ensures value { both_of result ≡ line_of (part_of self.entry) }
+        ensures case { IfErr result (DueIn (part_of self.entry)) }
     {
         let place = self.place();
         match self.cut(b'\n') {

@@ -181,6 +181,11 @@ module _ {X Y : Type 0} (b : Broadcasts X) (c : Consensuses Y) where
   advanced s = cond (nat_lt 0 (length (b.wire s.broadcast))) (carrying s Broadcast 0).next
       (cond (nat_lt 0 (length (c.wire s.consensus))) (carrying s Consensus 0).next (take_or_propose s (taker s) (proposer s)))
 
+  -- After so many steps, each the first possible.
+  abbrev pub after_steps : ℕ → Carrying b c → Carrying b c
+  after_steps zero s = s
+  after_steps (suc k) s = advanced (after_steps k s)
+
   -- Settle: step by step until it is at rest or has made as many steps as the limit says. What it leaves, and how many steps it made.
   unfoldable pub settled : ℕ → Carrying b c → Carrying b c
   settled zero s = s

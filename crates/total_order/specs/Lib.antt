@@ -1,3 +1,4 @@
 pub mod Carrying
 pub mod Calls
+pub mod Cases
 pub mod Models

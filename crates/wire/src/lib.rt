@@ -4,6 +4,7 @@ ghost use Rattle.std.specs.Prelude.{◌≡◌, ◌+◌, ◌≤◌, false, [], �
 ghost use Rattle.std.specs.List.{slice_get, remove};
 ghost use Rattle.std.specs.Option.{unwrap_or};
 ghost use Rattle.parts.specs.Refusals.{lose_answer, crash_answer};
+ghost use Rattle.parts.specs.Cases.{case_of, turned_down_by, lose_reasons, crash_reasons};
 ghost use Rattle.cards.specs.Cards.{net_of, with_crash};
 ghost use Rattle.wire.specs.Wires.{holding, senders, joined, sending, sent, without_to};
 
@@ -103,6 +104,8 @@ impl<P: Copy> Wire<P> {
     // Takes off an item whose sender has crashed; any other is refused.
     pub fn lose(&mut self, cards: &Cards, item: usize) -> Result<(), Refusal>
         ensures answer { result ≡ lose_answer (net_of cards.now (senders self.old.items) 0) item }
+        ensures case { let v = net_of cards.now (senders self.old.items) 0 in
+            case_of result ≡ turned_down_by (lose_reasons v item) }
         ensures after { self.new ≡ (if is_ok result then holding self.old (remove self.old.items item) else self.old) }
     {
         let sender = self.sender_of(item).ok_or(Refusal::NoSuchItem)?;
@@ -116,6 +119,7 @@ impl<P: Copy> Wire<P> {
     // A card crashes: what is addressed to it leaves, and the rest keeps its order.
     pub fn crash(&mut self, cards: &mut Cards, card: usize) -> Result<(), Refusal>
         ensures answer { result ≡ crash_answer (net_of cards.old [] 0) card }
+        ensures case { case_of result ≡ turned_down_by (crash_reasons (net_of cards.old [] 0) card) }
         ensures cards { cards.new ≡ (if is_ok result then with_crash cards.old card else cards.old) }
         ensures after { self.new ≡ (if is_ok result then holding self.old (without_to card self.old.items) else self.old) }
         ensures fewer { length self.new.items ≤ length self.old.items }

@@ -1,5 +1,5 @@
 -- Two cards over the board and the register, with two wear notes.
-use Rattle.std.specs.Prelude.{◌≡◌, ◌≤◌, true, List, [], ◌∷◌}
+use Rattle.std.specs.Prelude.{◌≡◌, ℕ, ◌≤◌, true, List, [], ◌∷◌, length}
 use Rattle.notes.specs.declared.wear.Wear.{Wear}
 use Rattle.notes.specs.contracts.wear.WearKind.TheImpl.{ghosts as wears}
 pub use Rattle.board.specs.contracts.state.broadcast.BoardBroadcast.TheImpl.{ghosts as board}
@@ -8,6 +8,10 @@ use Rattle.total_order.specs.declared.call.Call.{Call}
 use Rattle.total_order.specs.declared.call.Call.TheVariants.{Post, Carry, Propose, Settle}
 use Rattle.parts.specs.declared.wires.Wire.TheVariants.{Broadcast}
 use Rattle.order.specs.Words.{step_bound}
+use Rattle.total_order.specs.Carrying.{Carrying, cards_of}
+use Rattle.runs.specs.Scripts.{new_carrier}
+use Rattle.runs.specs.Runs.{answers_to}
+use Rattle.runs.specs.Tally.{tally}
 use Rattle.worked.specs.Reports.{Report, report}
 
 -- Note 1, of block 3, ranks before note 0, of block 7.
@@ -41,8 +45,18 @@ OneBatch = on_two_cards one_batch_calls ≡ record {
   rest = true;
 }
 
--- The bound allows two posts on two cards 24 steps, and neither run makes more: the first makes 16, the second 10.
-pub record WithinTheBound : Type 0 where
-  pub allowed : step_bound 2 2 board.bound register.bound ≡ 24
-  pub late_note : (on_two_cards late_note_calls).steps ≤ 24
-  pub one_batch : (on_two_cards one_batch_calls).steps ≤ 24
+-- The most steps that the bound allows these calls: by the posts that they and their answers tell, the cards, and the bounds of board and register.
+abbrev pub steps_allowed : List Call → ℕ
+steps_allowed calls = step_bound (tally calls (answers_to board register on_new calls)).posts cards board.bound register.bound
+  where
+    on_new : Carrying board register
+    on_new = new_carrier board register wears.precedes 2 two_notes
+
+    cards : ℕ
+    cards = cards_of 2 (length two_notes)
+
+-- So many steps are made by these calls, and so many the bound allows them.
+pub record StepsWithinTheBound (calls : List Call) (made allowed : ℕ) : Type 0 where
+  pub steps : (on_two_cards calls).steps ≡ made
+  pub most : steps_allowed calls ≡ allowed
+  pub within : made ≤ allowed

@@ -2,3 +2,4 @@ pub mod Reports
 pub mod Examples
 pub mod Files
 pub mod Shelves
+pub mod Worked

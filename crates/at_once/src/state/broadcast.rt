@@ -1,4 +1,4 @@
-ghost use Rattle.std.specs.Prelude.{◌≡◌};
+ghost use Rattle.std.specs.Prelude.{◌≡◌, IfOk, IsOk};
 ghost use Rattle.at_once.specs.AtOnce.{AtOnceState, at_once_cards, at_once_crashed, at_once_suspects, at_once_wire, at_once_work, at_once_poster, at_once_handed, new_at_once, post_on, unchanged, crash_on, suspect_on, hand_out};
 ghost use Rattle.at_once.specs.Made.{MadeAtOnce};
 ghost use Rattle.std.proofs.Common.{arith};
@@ -66,8 +66,11 @@ impl Broadcast for AtOnce {
       lawful = lawful;
     } };
 
-    // Nothing here asks for memory.
-    fn new(_heap: Global, count: usize) -> Result<AtOnce, AllocError> {
+    // Nothing here asks for memory, so beside what the trait asks it promises that it answers one.
+    fn new(_heap: Global, count: usize) -> Result<AtOnce, AllocError>
+        ensures made { IfOk result (λ x. x ≡ new_at_once count) }
+        ensures never_without_memory { IsOk result }
+    {
         Ok(AtOnce {
             cards: Cards::new(count),
             posters: Posters::new(),

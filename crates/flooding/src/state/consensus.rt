@@ -1,5 +1,5 @@
 ghost use Rattle.flooding.specs.Flooding.{FloodingState, flooding_cards, flooding_crashed, flooding_suspects, flooding_wire, flooding_work, flooding_proposal, flooding_decision, new_flooding, propose_on, carry_on, lose_on, crash_on, suspect_on};
-ghost use Rattle.flooding.specs.Sound.{SettledFlooding};
+ghost use Rattle.flooding.specs.Made.{MadeFlooding};
 ghost use Rattle.std.proofs.Common.{arith};
 ghost use Rattle.flooding.specs.Keeps.{new_made, propose_made, carry_made, lose_made, crash_made, suspect_made};
 ghost use Rattle.flooding.specs.Means.{new_means, propose_means, carry_means, lose_means, crash_means, suspect_means};
@@ -40,7 +40,7 @@ impl Consensus for Flooding {
 
     ghost decision = { flooding_decision };
 
-    ghost made = { SettledFlooding };
+    ghost made = { MadeFlooding };
 
     ghost bound = { 30 };
 

@@ -1,7 +1,8 @@
-ghost use Rattle.std.specs.Prelude.{◌≡◌, true, is_some};
+ghost use Rattle.std.specs.Prelude.{◌≡◌, ◌+◌, ◌<◌, ◌≤◌, ◌++◌, true, is_some};
 ghost use Rattle.notes.specs.Sets.{low};
 ghost use Rattle.tables.specs.Tables.{ballot_in};
-ghost use Rattle.flooding.specs.Enough.{MayEnter, MayKeep};
+ghost use Rattle.wire.specs.Wires.{sent};
+ghost use Rattle.flooding.specs.Enough.{demand_of, MayEnter, MayKeep};
 ghost use Rattle.flooding.specs.Flooding.{proposal_of, take_in_on, enter_on, decide_on, may_move, move_on, settle_on, through_on, arrive_on};
 ghost use Rattle.flooding.specs.Seats.{seat_in};
 
@@ -14,15 +15,26 @@ use wire::Item;
 
 impl Flooding {
     // The card enters a round: it has counted only itself, sends what it knows, and only then takes in what was kept for the round.
-    #[tactic(auto, using(crate::proofs::Rooms::items_counted, crate::proofs::Rooms::left_after))]
+    #[tactic(auto, using(crate::proofs::Rooms::left_after))]
     pub(super) fn enter(&mut self, place: Place, round: usize, known: NoteSet)
         requires { MayEnter self.old place.instance place.card round }
         ensures { self.new ≡ enter_on self.old place.instance place.card round known }
     {
         self.seats.put(place, Seat::enter(place.card, round, known));
-        self.wire
-            .send(&self.cards, place.card, self.seats.load(place));
+        let load = self.seats.load(place);
+        self.tell(place.card, load);
         self.take_in(place);
+    }
+
+    // It sends to at most 5 others.
+    #[tactic(auto, using(crate::proofs::Rooms::items_counted))]
+    fn tell(&mut self, card: usize, load: Load)
+        requires card { card < self.old.cards.count }
+        requires room { demand_of self.old + 5 ≤ 5760 }
+        ensures { let items = sent self.old.cards card load self.old.cards.count in
+            self.new ≡ record self.old { wire = self.old.wire ++ items } }
+    {
+        self.wire.send(&self.cards, card, load);
     }
 
     // What it takes in is not kept any longer: a card enters a round once.

@@ -1,6 +1,7 @@
 ghost use Rattle.std.specs.Prelude.{◌≡◌, ◌≤◌, true, false, [], length, is_ok, is_some, IfOk, if◌then◌else◌, Decides, nat_lt};
 ghost use Rattle.std.specs.List.{slice_get};
 ghost use Rattle.parts.specs.Refusals.{post_answer, lose_answer, crash_answer, suspect_answer};
+ghost use Rattle.parts.specs.Cases.{case_of, turned_down_by, post_reasons, lose_reasons, crash_reasons, suspect_reasons};
 ghost use Rattle.parts.specs.Views.{Quiet};
 ghost use Rattle.cards.specs.Cards.{crashed_in, suspects_in, net_of};
 ghost use Rattle.tables.specs.Tables.{poster_in, set_in, posts_view};
@@ -33,6 +34,8 @@ impl Spread {
 
     pub fn post(&mut self, card: usize, note: usize) -> Result<(), Refusal>
         ensures answer { result ≡ post_answer (posts_view self.old.cards self.old.posters) card note }
+        ensures case { let v = posts_view self.old.cards self.old.posters in
+            case_of result ≡ turned_down_by (post_reasons v card note) }
         ensures after { self.new ≡ (if is_ok result then post_on self.old card note else self.old) }
     {
         self.posters.post(&self.cards, card, note)?;
@@ -54,6 +57,8 @@ impl Spread {
 
     pub fn lose(&mut self, item: usize) -> Result<(), Refusal>
         ensures answer { result ≡ lose_answer (net_of self.old.cards (senders self.old.wire) 0) item }
+        ensures case { let v = net_of self.old.cards (senders self.old.wire) 0 in
+            case_of result ≡ turned_down_by (lose_reasons v item) }
         ensures after { self.new ≡ (if is_ok result then without_item self.old item else self.old) }
     {
         self.wire.lose(&self.cards, item)
@@ -61,6 +66,8 @@ impl Spread {
 
     pub fn crash(&mut self, card: usize) -> Result<(), Refusal>
         ensures answer { result ≡ crash_answer (net_of self.old.cards (senders self.old.wire) 0) card }
+        ensures case { let v = net_of self.old.cards (senders self.old.wire) 0 in
+            case_of result ≡ turned_down_by (crash_reasons v card) }
         ensures after { self.new ≡ (if is_ok result then crash_on self.old card else self.old) }
     {
         self.wire.crash(&mut self.cards, card)
@@ -68,6 +75,8 @@ impl Spread {
 
     pub fn suspect(&mut self, by: usize, card: usize) -> Result<(), Refusal>
         ensures answer { result ≡ suspect_answer (net_of self.old.cards (senders self.old.wire) 0) by card }
+        ensures case { let v = net_of self.old.cards (senders self.old.wire) 0 in
+            case_of result ≡ turned_down_by (suspect_reasons v by card) }
         ensures after { self.new ≡ (if is_ok result then suspect_on self.old by card else self.old) }
     {
         self.cards.suspect(by, card)

@@ -1,5 +1,6 @@
 ghost use Rattle.std.specs.Prelude.{◌≡◌, ◌+◌, is_ok, if◌then◌else◌, Some};
 ghost use Rattle.parts.specs.Refusals.{propose_answer};
+ghost use Rattle.parts.specs.Cases.{case_of, turned_down_by, propose_reasons};
 ghost use Rattle.tables.specs.Tables.{new_ballots, ballot_in, with_ballot, proposals_view, free_ballots};
 
 use super::Ballots;
@@ -39,6 +40,8 @@ impl Ballots {
         notes: NoteSet,
     ) -> Result<(), Refusal>
         ensures answer { result ≡ propose_answer (proposals_view cards.now self.old) instance card notes }
+        ensures case { let v = proposals_view cards.now self.old in
+            case_of result ≡ turned_down_by (propose_reasons v instance card notes) }
         ensures after { self.new ≡ (if is_ok result then with_ballot self.old instance card (Some notes) else self.old) }
         ensures free { free_ballots self.new + (if is_ok result then 1 else 0) ≡ free_ballots self.old }
     {
@@ -46,7 +49,8 @@ impl Ballots {
         if self.of(instance, card).is_some() {
             return Err(Refusal::AlreadyProposed);
         }
-        if instance >= 32 || notes.is_empty() {
+        // A set with no lowest note holds none.
+        if instance >= 32 || notes.lowest().is_none() {
             return Err(Refusal::NothingToPropose);
         }
         self.rows.put(instance, card, Some(notes));

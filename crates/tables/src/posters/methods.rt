@@ -1,5 +1,6 @@
 ghost use Rattle.std.specs.Prelude.{◌≡◌, ◌+◌, replicate, is_ok, if◌then◌else◌, Some, None, slice_set};
 ghost use Rattle.parts.specs.Refusals.{post_answer};
+ghost use Rattle.parts.specs.Cases.{case_of, turned_down_by, post_reasons};
 ghost use Rattle.tables.specs.Tables.{poster_in, posts_view, free_notes};
 
 use super::Posters;
@@ -24,6 +25,8 @@ impl Posters {
     #[tactic(auto, using(crate::proofs::Free::one_less_free))]
     pub fn post(&mut self, cards: &Cards, card: usize, note: usize) -> Result<(), Refusal>
         ensures answer { result ≡ post_answer (posts_view cards.now self.old) card note }
+        ensures case { let v = posts_view cards.now self.old in
+            case_of result ≡ turned_down_by (post_reasons v card note) }
         ensures after { self.new ≡ (if is_ok result then slice_set self.old note (Some card) else self.old) }
         ensures free { free_notes self.new + (if is_ok result then 1 else 0) ≡ free_notes self.old }
     {

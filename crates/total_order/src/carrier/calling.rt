@@ -1,6 +1,7 @@
 // A call as a value, made on a carrier.
-ghost use Rattle.std.specs.Prelude.{◌≡◌};
+ghost use Rattle.std.specs.Prelude.{◌≡◌, OnErr};
 ghost use Rattle.total_order.specs.Calls.{calling};
+ghost use Rattle.total_order.specs.Cases.{answer_case, call_case};
 ghost use Rattle.total_order.specs.Models.{model};
 
 use super::Carrier;
@@ -12,7 +13,11 @@ impl<B: Broadcast, C: Consensus> Carrier<B, C> {
     #[tactic(auto, unfolding(crate::specs::Calls::calling))]
     pub fn call(&mut self, call: Call) -> Answer
         ensures answer { result ≡ (calling B.Broadcast C.Consensus (model B.Broadcast C.Consensus self.old) call).tells }
+        ensures case { answer_case result
+            ≡ call_case B.Broadcast C.Consensus (model B.Broadcast C.Consensus self.old) call }
         ensures after { model B.Broadcast C.Consensus self.new ≡ (calling B.Broadcast C.Consensus (model B.Broadcast C.Consensus self.old) call).leaves }
+        ensures refused { OnErr result
+            (model B.Broadcast C.Consensus self.new ≡ model B.Broadcast C.Consensus self.old) }
     {
         // The kinds differ in their arguments, so each has its own call.
         match call {

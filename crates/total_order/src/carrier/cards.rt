@@ -109,7 +109,7 @@ impl<B: Broadcast, C: Consensus> Carrier<B, C> {
         if self.consensus.proposal_of(instance, card).is_some() {
             return Err(Refusal::AlreadyProposed);
         }
-        if instance >= 32 || self.waiting(card).is_empty() {
+        if instance >= 32 || self.waiting(card).lowest().is_none() {
             return Err(Refusal::NothingToPropose);
         }
         Ok(())

@@ -1,7 +1,9 @@
 // The calls on a carrier other than settle. A refused call changes nothing.
-ghost use Rattle.std.specs.Prelude.{◌≡◌, ◌<◌, length, nat_lt, slice_set};
+ghost use Rattle.std.specs.Prelude.{◌≡◌, ◌<◌, length, nat_lt, OnOk, OnErr, slice_set};
+ghost use Rattle.parts.specs.Cases.{case_of, turned_down_by};
 ghost use Rattle.logs.specs.Orders.{appended};
 ghost use Rattle.total_order.specs.Carrying.{one_more, if_accepted, moved, log_at, instance_at, waiting, propose_reply, posting, carrying, losing, crashing, suspecting, proposing, taking};
+ghost use Rattle.total_order.specs.Cases.{posting_reasons, carrying_reasons, losing_reasons, crashing_reasons, suspecting_reasons, proposing_reasons, taking_reasons};
 ghost use Rattle.total_order.specs.Models.{model};
 
 use super::cards::acting;
@@ -17,7 +19,11 @@ impl<B: Broadcast, C: Consensus> Carrier<B, C> {
     // A card posts a note of the book.
     pub fn post(&mut self, card: usize, note: usize) -> Result<(), Refusal>
         ensures answer { result ≡ (posting B.Broadcast C.Consensus (model B.Broadcast C.Consensus self.old) card note).answer }
+        ensures case { case_of result ≡ turned_down_by (posting_reasons B.Broadcast C.Consensus
+            (model B.Broadcast C.Consensus self.old) card note) }
         ensures after { model B.Broadcast C.Consensus self.new ≡ (posting B.Broadcast C.Consensus (model B.Broadcast C.Consensus self.old) card note).next }
+        ensures refused { OnErr result
+            (model B.Broadcast C.Consensus self.new ≡ model B.Broadcast C.Consensus self.old) }
     {
         if self.has_note(note) {
             return self.broadcast.post(card, note);
@@ -32,7 +38,13 @@ impl<B: Broadcast, C: Consensus> Carrier<B, C> {
     // An item of a wire arrives.
     pub fn carry(&mut self, wire: Wire, item: usize) -> Result<(), Refusal>
         ensures answer { result ≡ (carrying B.Broadcast C.Consensus (model B.Broadcast C.Consensus self.old) wire item).answer }
+        ensures case { case_of result ≡ turned_down_by (carrying_reasons B.Broadcast C.Consensus
+            (model B.Broadcast C.Consensus self.old) wire item) }
         ensures after { model B.Broadcast C.Consensus self.new ≡ (carrying B.Broadcast C.Consensus (model B.Broadcast C.Consensus self.old) wire item).next }
+        ensures refused { OnErr result
+            (model B.Broadcast C.Consensus self.new ≡ model B.Broadcast C.Consensus self.old) }
+        ensures counted { OnOk result ((model B.Broadcast C.Consensus self.new).steps
+            ≡ one_more (model B.Broadcast C.Consensus self.old).steps) }
     {
         match wire {
             Wire::Broadcast => self.broadcast.carry(item)?,
@@ -45,7 +57,13 @@ impl<B: Broadcast, C: Consensus> Carrier<B, C> {
     // An item of a wire, from a crashed sender, is lost. Written out beside `carry`: to share it, both calls of both parts would go in as closures.
     pub fn lose(&mut self, wire: Wire, item: usize) -> Result<(), Refusal>
         ensures answer { result ≡ (losing B.Broadcast C.Consensus (model B.Broadcast C.Consensus self.old) wire item).answer }
+        ensures case { case_of result ≡ turned_down_by (losing_reasons B.Broadcast C.Consensus
+            (model B.Broadcast C.Consensus self.old) wire item) }
         ensures after { model B.Broadcast C.Consensus self.new ≡ (losing B.Broadcast C.Consensus (model B.Broadcast C.Consensus self.old) wire item).next }
+        ensures refused { OnErr result
+            (model B.Broadcast C.Consensus self.new ≡ model B.Broadcast C.Consensus self.old) }
+        ensures counted { OnOk result ((model B.Broadcast C.Consensus self.new).steps
+            ≡ one_more (model B.Broadcast C.Consensus self.old).steps) }
     {
         match wire {
             Wire::Broadcast => self.broadcast.lose(item)?,
@@ -58,7 +76,11 @@ impl<B: Broadcast, C: Consensus> Carrier<B, C> {
     // A card crashes; the broadcast and the consensus are told.
     pub fn crash(&mut self, card: usize) -> Result<(), Refusal>
         ensures answer { result ≡ (crashing B.Broadcast C.Consensus (model B.Broadcast C.Consensus self.old) card).answer }
+        ensures case { case_of result ≡ turned_down_by (crashing_reasons B.Broadcast C.Consensus
+            (model B.Broadcast C.Consensus self.old) card) }
         ensures after { model B.Broadcast C.Consensus self.new ≡ (crashing B.Broadcast C.Consensus (model B.Broadcast C.Consensus self.old) card).next }
+        ensures refused { OnErr result
+            (model B.Broadcast C.Consensus self.new ≡ model B.Broadcast C.Consensus self.old) }
     {
         self.broadcast.crash(card)?;
         let _ = self.consensus.crash(card);
@@ -68,7 +90,11 @@ impl<B: Broadcast, C: Consensus> Carrier<B, C> {
     // A card comes to suspect another; the broadcast and the consensus are told.
     pub fn suspect(&mut self, by: usize, card: usize) -> Result<(), Refusal>
         ensures answer { result ≡ (suspecting B.Broadcast C.Consensus (model B.Broadcast C.Consensus self.old) by card).answer }
+        ensures case { case_of result ≡ turned_down_by (suspecting_reasons B.Broadcast C.Consensus
+            (model B.Broadcast C.Consensus self.old) by card) }
         ensures after { model B.Broadcast C.Consensus self.new ≡ (suspecting B.Broadcast C.Consensus (model B.Broadcast C.Consensus self.old) by card).next }
+        ensures refused { OnErr result
+            (model B.Broadcast C.Consensus self.new ≡ model B.Broadcast C.Consensus self.old) }
     {
         self.broadcast.suspect(by, card)?;
         let _ = self.consensus.suspect(by, card);
@@ -78,7 +104,13 @@ impl<B: Broadcast, C: Consensus> Carrier<B, C> {
     // A card puts its waiting notes forward.
     pub fn propose(&mut self, card: usize) -> Result<(), Refusal>
         ensures answer { result ≡ (proposing B.Broadcast C.Consensus (model B.Broadcast C.Consensus self.old) card).answer }
+        ensures case { case_of result ≡ turned_down_by (proposing_reasons B.Broadcast C.Consensus
+            (model B.Broadcast C.Consensus self.old) card) }
         ensures after { model B.Broadcast C.Consensus self.new ≡ (proposing B.Broadcast C.Consensus (model B.Broadcast C.Consensus self.old) card).next }
+        ensures refused { OnErr result
+            (model B.Broadcast C.Consensus self.new ≡ model B.Broadcast C.Consensus self.old) }
+        ensures counted { OnOk result ((model B.Broadcast C.Consensus self.new).steps
+            ≡ one_more (model B.Broadcast C.Consensus self.old).steps) }
     {
         self.propose_waiting(card)?;
         self.count_step();
@@ -88,7 +120,13 @@ impl<B: Broadcast, C: Consensus> Carrier<B, C> {
     // A card appends what is decided in its instance to its log, and moves to the next instance.
     pub fn take(&mut self, card: usize) -> Result<(), Refusal>
         ensures answer { result ≡ (taking B.Broadcast C.Consensus (model B.Broadcast C.Consensus self.old) card).answer }
+        ensures case { case_of result ≡ turned_down_by (taking_reasons B.Broadcast C.Consensus
+            (model B.Broadcast C.Consensus self.old) card) }
         ensures after { model B.Broadcast C.Consensus self.new ≡ (taking B.Broadcast C.Consensus (model B.Broadcast C.Consensus self.old) card).next }
+        ensures refused { OnErr result
+            (model B.Broadcast C.Consensus self.new ≡ model B.Broadcast C.Consensus self.old) }
+        ensures counted { OnOk result ((model B.Broadcast C.Consensus self.new).steps
+            ≡ one_more (model B.Broadcast C.Consensus self.old).steps) }
     {
         let decided = self.decision(card)?;
         self.go_on(card, decided);

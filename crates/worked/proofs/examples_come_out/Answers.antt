@@ -10,4 +10,9 @@ use Rattle.worked.proofs.examples_come_out.Goals as goal
 
 pub returns : goal.returns
 unfolding ones ones_in has place in_ranking_order waiting taker proposer at_rest advanced settled settle_steps calling left_by answers_to
-returns c = record { late_note = refl; one_batch = refl; within_the_bound = record { allowed = refl; late_note = lit≤ _; one_batch = lit≤ _ } }
+returns c = record {
+  late_note = refl;
+  late_note_steps = record { steps = refl; most = refl; within = lit≤ _ };
+  one_batch = refl;
+  one_batch_steps = record { steps = refl; most = refl; within = lit≤ _ };
+}

@@ -9,12 +9,12 @@ loop-i-init g c =
     ap (λ k. skip_lines g.T.OneLine.rule k (part_of c.args.rest)) e
 
 pub loop-i-preserved : goal.loop-i-preserved
-loop-i-preserved g c = skip_more g.T.OneLine.rule c.args.count c.loop-i._i _ c.loop-i-test.true _ _ _ c.loop-i.invariant c.in_ok-left.ensures
+loop-i-preserved g c = skip_more g.T.OneLine.rule c.args.count c.loop-i._i _ c.loop-i-test.true _ _ _ c.loop-i.invariant c.in_ok-left.ensures.value
 
 pub returns-in_err-left : goal.returns-in_err-left
 returns-in_err-left g c =
     let wrong = sym (skip_ends g.T.OneLine.rule [] c.args.count (part_of c.args.rest)
-    ∙ skip_wrong g.T.OneLine.rule c.args.count c.loop-i._i _ c.loop-i-test.true _ _ c.loop-i.invariant c.in_err-left.ensures) in grind (arith, wrong)
+    ∙ skip_wrong g.T.OneLine.rule c.args.count c.loop-i._i _ c.loop-i-test.true _ _ c.loop-i.invariant c.in_err-left.ensures.value) in grind (arith, wrong)
 
 pub returns : goal.returns
 returns g c =

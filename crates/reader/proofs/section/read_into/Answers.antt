@@ -16,14 +16,14 @@ push_reserved-requires g c = omega arith
 
 pub loop-i-preserved : goal.loop-i-preserved
 loop-i-preserved g c = (
-  line_more g.T.OneLine.rule c.args.count c.loop-i._i _ c.loop-i-test.true _ _ _ _ _ c.loop-i.invariant.0 c.in_ok-value.ensures
+  line_more g.T.OneLine.rule c.args.count c.loop-i._i _ c.loop-i-test.true _ _ _ _ _ c.loop-i.invariant.0 c.in_ok-value.ensures.value
       (ap (map g.T.OneLine.said) c.push_reserved.ensures.items ∙ map_push g.T.OneLine.said _ _),
   omega arith,
 )
 
 pub returns-in_err-value : goal.returns-in_err-value
 returns-in_err-value g c =
-    let wrong = sym (line_wrong g.T.OneLine.rule c.args.count c.loop-i._i _ c.loop-i-test.true _ _ _ c.loop-i.invariant.0 c.in_err-value.ensures) in grind (arith, wrong)
+    let wrong = sym (line_wrong g.T.OneLine.rule c.args.count c.loop-i._i _ c.loop-i-test.true _ _ _ c.loop-i.invariant.0 c.in_err-value.ensures.value) in grind (arith, wrong)
 
 pub returns : goal.returns
 returns g c = sym (c.loop-i.invariant.0 ∙ no_more g.T.OneLine.rule _ c.args.count c.loop-i._i _ (omega arith))

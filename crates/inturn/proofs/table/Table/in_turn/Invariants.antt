@@ -1,7 +1,7 @@
-use Rattle.std.specs.Slice.Iter.{iter_rest}
-use Rattle.std.specs.Iterator.Adapters.{rev_source}
-use Rattle.inturn.proofs.Looks.{Looked}
+use Rattle.std.proofs.Common.{◌≡◌}
+use Rattle.inturn.specs.Turns.{blocked_by, counted_of}
 use Rattle.inturn.proofs.table.Table.in_turn.Given as goal
 
-abbrev pub invariant-loop-entry : goal.invariant-loop-entry
-invariant-loop-entry l = Looked l.self l.handed l.counted (iter_rest (rev_source l.entry-iterator))
+-- What counts of the posts so far, and whom they block.
+abbrev pub invariant-loop-post : goal.invariant-loop-post
+invariant-loop-post l = (l.counted ≡ counted_of l.self l.handed l.post-index) × (l.blocked ≡ blocked_by l.self l.handed l.post-index)

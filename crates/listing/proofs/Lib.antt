@@ -1,0 +1,3 @@
+pub mod Ranks
+mod Whole
+mod Words

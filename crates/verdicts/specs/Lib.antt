@@ -1,0 +1,3 @@
+pub mod Counts
+pub mod Sentences
+pub mod Law
