@@ -104,6 +104,7 @@ UNTOLD = {
     ],
     "a card counts itself where it relays, so it has counted itself of every note that it can be handed": ["allack/new_counts_not_empty"],
     "an item of a past round comes from a card that its receiver suspects": ["flooding/item_of_a_past_round_counted"],
+    "what is kept of a suspected card is dropped when its round comes": ["flooding/new_item_of_a_suspected_card_kept"],
     "a card enters a round once, so what is kept for a past round does nothing": ["flooding/taken_items_stay_kept"],
     "a second decision is the first again, as what is known has not changed": ["flooding/decides_twice"],
     "a card stands in one undecided instance at a time": ["flooding/instances_descending"],
@@ -195,7 +196,7 @@ def counts_refusals(name, *edits):
         return call
 
 
-counts_refusals("carry", "total_order/refusal_counted")
+counts_refusals("carry", "total_order/refusal_counted", "total_order/refusal_counted_by_its_rule")
 counts_refusals("lose")
 counts_refusals("propose")
 counts_refusals("take")
@@ -228,7 +229,7 @@ def _(right):
     return lambda self, limit: right(self, 10**6 if limit else 0)
 
 
-@reading("settle makes one step too many", r.Carrier, "settle", "total_order/settle_one_step_beyond_its_limit")
+@reading("settle makes one step too many", r.Carrier, "settle", "total_order/settle_one_step_beyond_its_limit", "total_order/settle_one_step_beyond_by_its_rule")
 def _(right):
     return lambda self, limit: right(self, limit + 1)
 
@@ -303,7 +304,7 @@ def _(right):
     return first_that
 
 
-@reading("settle makes two steps for one", r.Carrier, "settle", "total_order/settle_makes_two_steps_for_one")
+@reading("settle makes two steps for one", r.Carrier, "settle", "total_order/settle_made_in_its_first_step", "total_order/settle_makes_two_steps_for_one")
 def _(right):
     return lambda self, limit: right(self, 2 * limit)
 
@@ -535,6 +536,7 @@ def _(right):
     "a carry is of item 0, whatever its number",
     r.Part,
     "carry",
+    "allack/carries_the_first",
     "relay/carries_the_first",
     "total_order/carry_of_another_item",
 )
@@ -636,6 +638,7 @@ def _(right):
     "the suspected card is named first",
     r.Broadcast,
     "suspect",
+    "allack/suspicion_backwards",
     "board/suspects_backwards",
     "inturn/suspect_the_other_way_round",
     "relay/suspicion_backwards",
@@ -725,7 +728,7 @@ def _(right):
     return init
 
 
-@reading("a post is of the note with the card's number", r.Broadcast, "post", "relay/posts_the_card_number")
+@reading("a post is of the note with the card's number", r.Broadcast, "post", "allack/posts_the_card_number", "relay/posts_the_card_number")
 def _(right):
     return lambda self, p, m: right(self, p, p)
 
@@ -869,7 +872,7 @@ def _(right):
     return lambda self, p, m: None
 
 
-@reading("relay: a card relays what the card of the note's number has not relayed of its own", r.Relay, "receive")
+@reading("relay: a card relays what the card of the note's number has not relayed of its own", r.Relay, "receive", "spread/relayed_note_forgotten")
 def _(right):
     def receive(self, sender, to, m):
         if len(self.wire) < 200 and not (m < 6 and to in self.sets[m]):
@@ -1118,7 +1121,13 @@ def _(right):
     return lambda order, poster, below: right(order[::-1], poster, below)
 
 
-@reading("in-turn: a refused post blocks its poster", r.Broadcast, "post", "inturn/refused_post_recorded")
+@reading(
+    "in-turn: a refused post blocks its poster",
+    r.Broadcast,
+    "post",
+    "inturn/refused_post_recorded",
+    "inturn/table_filled_before_post_accepted",
+)
 def _(right):
     def post(self, p, m):
         try:
@@ -1250,7 +1259,13 @@ def _(right):
 # Flooding.
 
 
-@reading("flooding: an item of a suspected card is counted", r.Flood, "receive", "flooding/new_item_of_a_suspected_card_counted")
+@reading(
+    "flooding: an item of a suspected card is counted",
+    r.Flood,
+    "receive",
+    "flooding/item_of_a_suspected_card_counted",
+    "flooding/new_item_of_a_suspected_card_counted",
+)
 def _(right):
     def receive(self, sender, to, load):
         doubted, self.doubts = self.doubts, self.doubts - {(to, sender)}

@@ -3,12 +3,15 @@ ghost use Rattle.std.specs.Prelude.{◌<◌, length, IfSome};
 
 use std::alloc::{AllocError, Global};
 
-// The byte that two hexadecimal digits write, and 0 for others.
-fn byte_of(digits: &[u8]) -> u8 {
-    std::str::from_utf8(digits)
-        .ok()
-        .and_then(|text| u8::from_str_radix(text, 16).ok())
-        .unwrap_or(0)
+// A hexadecimal digit, and 0 for another byte.
+fn digit(byte: u8) -> u8
+    ensures { result < 16 }
+{
+    match byte {
+        b'0'..=b'9' => byte - b'0',
+        b'a'..=b'f' => byte - b'a' + 10,
+        _ => 0,
+    }
 }
 
 // The first byte that is meant before the quote, and what follows it.
@@ -17,7 +20,9 @@ fn first_meant(quoted: &[u8]) -> Option<(u8, &[u8])>
 {
     match quoted {
         [b'\\', b'n', rest @ ..] => Some((b'\n', rest)),
-        [b'\\', b'x', high, low, rest @ ..] => Some((byte_of(&[*high, *low]), rest)),
+        [b'\\', b'x', high, low, rest @ ..] => Some((digit(*high) * 16 + digit(*low), rest)),
+        // What ends too early means nothing.
+        [b'\\'] | [b'\\', b'x', ..] => None,
         [b'\\', byte, rest @ ..] => Some((*byte, rest)),
         [] | [b'"', ..] => None,
         [byte, rest @ ..] => Some((*byte, rest)),
