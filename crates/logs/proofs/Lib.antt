@@ -2,3 +2,4 @@ pub mod Batches
 mod Counts
 pub mod Lowest
 mod Rankings
+mod Tables
