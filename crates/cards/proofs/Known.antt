@@ -1,5 +1,5 @@
 -- What is known of a card, written, in the list of the crashes and in that of the suspicions; and a question that is asked of every card.
-use Rattle.std.proofs.Common.{◌≡◌, ℕ, zero, suc, ◌+◌, ◌<◌, ◌≤◌, Bool, true, false, List, [], map, get_or, set, sym, refl, ap, ◌∙◌, subst, ⊎_elim, arith}
+use Rattle.std.proofs.Common.{◌≡◌, ℕ, zero, suc, ◌+◌, ◌<◌, ◌≤◌, Bool, true, false, List, [], map, get_or, set, replicate, sym, refl, ap, ◌∙◌, subst, ⊎_elim, arith, length-set}
 use Rattle.std.specs.Bool.{Decides}
 use Rattle.std.specs.List.{range_with_len, list_all}
 use Rattle.std.proofs.Math.ListN.{get_or-map}
@@ -8,7 +8,8 @@ use Rattle.std.proofs.lemmas.List.{map-set}
 use Rattle.std.proofs.lemmas.Bool.{and_parts, and_from, or_left, or_right, not_from_false, cases_Bool, cases_lt}
 use Rattle.std.proofs.lemmas.Bool.Decides.{nat_tests}
 use Rattle.cards.specs.declared.Card.{Card}
-use Rattle.cards.specs.Cards.{CardState, crashed_in, suspects_in, knows, knows_all, AllSuspected}
+use Rattle.cards.specs.Cards.{CardState, crashed_in, suspects_in, SixCards, known_of, with_crash, knows, knows_all, AllSuspected}
+use Rattle.parts.proofs.Lists.{rows_kept, new_row}
 
 pub crash_written : (xs : List Card) (i : ℕ) (b : Bool) (s : List Bool) → map (λ k. k.crashed) (set xs i (record { crashed = b; suspects = s })) ≡ set (map (λ k. k.crashed) xs) i b
 crash_written xs i b s = map-set (λ k. k.crashed) xs i (record { crashed = b; suspects = s })
@@ -26,6 +27,21 @@ suspicion_written xs i p a b =
 
 pub suspicion_apart : (xs : List Card) (i : ℕ) (d : Card) (s : List Bool) → map (λ k. k.crashed) (set xs i (record { crashed = (get_or xs i d).crashed; suspects = s })) ≡ map (λ k. k.crashed) xs
 suspicion_apart xs i d s = map-set_same (λ k. k.crashed) xs i (record { crashed = (get_or xs i d).crashed; suspects = s }) d refl
+
+-- The lists stay of six cards.
+
+pub new_six : (n : ℕ) → n ≤ 6 → SixCards (known_of n (replicate 6 (record { crashed = false; suspects = replicate 6 false })))
+new_six n h = record { few = h; crashes = refl; rows = refl; row = λ q l. new_row 6 q (replicate 6 false) l }
+
+pub crash_six : (c : CardState) (p : ℕ) → SixCards c → SixCards (with_crash c p)
+crash_six c p g = record { few = g.few; crashes = simp length-set g.crashes; rows = g.rows; row = g.row }
+
+pub suspicion_six : (n : ℕ) (xs : List Card) (i p : ℕ) (b : Bool) → i < n → SixCards (known_of n xs)
+    → (let none : Card = record { crashed = false; suspects = [] } in SixCards (known_of n (set xs i (record { crashed = (get_or xs i none).crashed; suspects = set (get_or xs i none).suspects p b }))))
+suspicion_six n xs i p b h g =
+    let none : Card = record { crashed = false; suspects = [] } in
+    rw (suspicion_apart xs i none (set (get_or xs i none).suspects p b), suspicion_written xs i p (get_or xs i none).crashed b)
+    (record { few = g.few; crashes = g.crashes; rows = simp length-set g.rows; row = rows_kept (map (λ k. k.suspects) xs) 6 6 i p b (omega (arith, g.rows, g.few)) g.row })
 
 -- A test that each of some numbers in a row passes.
 

@@ -1,13 +1,17 @@
 -- The cards of a part: what their state holds, and what a crash and a suspicion make of it.
-use Rattle.std.specs.Prelude.{◌≡◌, ℕ, ◌<◌, ◌≤◌, Bool, true, false, cond, not, ◌||◌, List, [], length, replicate, nat_lt, slice_index_or, slice_set}
+use Rattle.std.specs.Prelude.{◌≡◌, ℕ, ◌<◌, ◌≤◌, Bool, true, false, cond, not, ◌||◌, List, [], map, length, replicate, nat_lt, slice_index_or, slice_set}
 use Rattle.std.specs.List.{list_all, range_with_len}
 use Rattle.parts.specs.Views.{Net}
+use Rattle.cards.specs.declared.Card.{Card}
 
 -- `suspicions` has a row for each card: whom it suspects.
 pub record CardState : Type 0 where
   pub count : ℕ
   pub crashed : List Bool
   pub suspicions : List (List Bool)
+
+abbrev pub known_of : ℕ → List Card → CardState
+known_of n xs = record { count = n; crashed = map (λ k. k.crashed) xs; suspicions = map (λ k. k.suspects) xs }
 
 abbrev pub crashed_in : CardState → ℕ → Bool
 crashed_in c p = slice_index_or c.crashed p false
@@ -18,6 +22,13 @@ suspects_in c q p = slice_index_or (slice_index_or c.suspicions q []) p false
 -- Card p runs.
 abbrev pub Running : CardState → ℕ → Type 0
 Running c p = (p < c.count) × (crashed_in c p ≡ false)
+
+-- The lists are of six cards, however many there are.
+pub record SixCards (c : CardState) : Type 0 where
+  pub few : c.count ≤ 6
+  pub crashes : length c.crashed ≡ 6
+  pub rows : length c.suspicions ≡ 6
+  pub row : (q : ℕ) → q < 6 → length (slice_index_or c.suspicions q []) ≡ 6
 
 -- Above 6 makes none.
 abbrev pub new_cards : ℕ → CardState

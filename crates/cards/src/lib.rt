@@ -19,12 +19,11 @@ pub struct Cards {
 }
 
 impl Model for Cards {
-    ghost use Rattle.std.specs.Prelude.{◌≤◌, map};
-    ghost use Rattle.cards.specs.Cards.{CardState};
+    ghost use Rattle.cards.specs.Cards.{CardState, SixCards, known_of};
 
     ghost Value = { CardState };
 
-    ghost view = { λ c. record { count = c.size; crashed = map (λ k. k.crashed) c.cards; suspicions = map (λ k. k.suspects) c.cards } };
+    ghost view = { λ c. known_of c.size c.cards };
 
-    ghost invariant = { λ c. c.size ≤ 6 };
+    ghost invariant = { λ c. SixCards (known_of c.size c.cards) };
 }

@@ -1,13 +1,14 @@
 ghost use Rattle.std.specs.Prelude.{◌≡◌, ◌<◌, ◌≤◌, true, [], is_ok, if◌then◌else◌, Decides, Ok};
 ghost use Rattle.parts.specs.Refusals.{acting_answer, crash_answer, suspect_answer};
 ghost use Rattle.parts.specs.Cases.{case_of, turned_down_by, acting_reasons, crash_reasons, suspect_reasons};
-ghost use Rattle.cards.specs.Cards.{crashed_in, suspects_in, new_cards, with_crash, with_suspicion, net_of, knows, knows_all, AllSuspected};
+ghost use Rattle.cards.specs.Cards.{crashed_in, suspects_in, new_cards, with_crash, with_suspicion, net_of, knows, knows_all, AllSuspected, SixCards};
 
 use super::{Card, Cards};
 use parts::refusal::Refusal;
 
 impl Cards {
     // A count above 6 makes none.
+    #[tactic(auto, using(crate::proofs::Known::new_six))]
     pub fn new(count: usize) -> Cards
         ensures { result ≡ new_cards count }
     {
@@ -23,12 +24,14 @@ impl Cards {
     pub fn count(&self) -> usize
         ensures count { result ≡ self.now.count }
         ensures few { result ≤ 6 }
+        ensures six { SixCards self.now }
     {
         self.size
     }
 
     pub fn has_crashed(&self, card: usize) -> bool
-        ensures { result ≡ crashed_in self.now card }
+        ensures answer { result ≡ crashed_in self.now card }
+        ensures six { SixCards self.now }
     {
         self.cards.get(card).is_some_and(|known| known.crashed)
     }
@@ -38,6 +41,7 @@ impl Cards {
         ensures answer { result ≡ acting_answer (net_of self.now [] 0) card (Ok tt) }
         ensures case { case_of result ≡ turned_down_by (acting_reasons (net_of self.now [] 0) card) }
         ensures few { is_ok result ≡ true → card < 6 }
+        ensures six { SixCards self.now }
     {
         if card >= self.count() {
             return Err(Refusal::NoSuchCard);
@@ -49,7 +53,8 @@ impl Cards {
     }
 
     pub fn suspects(&self, who: usize, whom: usize) -> bool
-        ensures { result ≡ suspects_in self.now who whom }
+        ensures answer { result ≡ suspects_in self.now who whom }
+        ensures six { SixCards self.now }
     {
         self.cards
             .get(who)
@@ -58,22 +63,26 @@ impl Cards {
             .unwrap_or(false)
     }
 
-    #[tactic(auto, using(crate::proofs::Known::crash_written, crate::proofs::Known::crash_apart))]
+    #[tactic(auto, using(crate::proofs::Known::crash_written, crate::proofs::Known::crash_apart, crate::proofs::Known::crash_six))]
     pub fn crash(&mut self, card: usize) -> Result<(), Refusal>
         ensures answer { result ≡ crash_answer (net_of self.old [] 0) card }
         ensures case { case_of result ≡ turned_down_by (crash_reasons (net_of self.old [] 0) card) }
         ensures after { self.new ≡ (if is_ok result then with_crash self.old card else self.old) }
+        ensures six { SixCards self.old }
+        ensures still_six { SixCards self.new }
     {
         self.acting(card)?;
         self.cards[card].crashed = true;
         Ok(())
     }
 
-    #[tactic(auto, using(crate::proofs::Known::suspicion_written, crate::proofs::Known::suspicion_apart))]
+    #[tactic(auto, using(crate::proofs::Known::suspicion_written, crate::proofs::Known::suspicion_apart, crate::proofs::Known::suspicion_six))]
     pub fn suspect(&mut self, by: usize, card: usize) -> Result<(), Refusal>
         ensures answer { result ≡ suspect_answer (net_of self.old [] 0) by card }
         ensures case { case_of result ≡ turned_down_by (suspect_reasons (net_of self.old [] 0) by card) }
         ensures after { self.new ≡ (if is_ok result then with_suspicion self.old by card else self.old) }
+        ensures six { SixCards self.old }
+        ensures still_six { SixCards self.new }
     {
         if by >= self.count() || card >= self.count() {
             return Err(Refusal::NoSuchCard);

@@ -1,4 +1,5 @@
 ghost use Rattle.std.specs.Prelude.{◌≡◌, [], replicate, slice_set, slice_index_or};
+ghost use Rattle.tables.specs.Tables.{Shaped};
 
 use std::marker::Model;
 
@@ -31,7 +32,8 @@ impl<T: Copy> Grid<T> {
 
     // The value at a place, or `none` where there is no such place.
     pub fn of(&self, instance: usize, card: usize, none: T) -> T
-        ensures { result ≡ slice_index_or (slice_index_or self.now instance []) card none }
+        ensures value { result ≡ slice_index_or (slice_index_or self.now instance []) card none }
+        ensures shape { Shaped self.now }
     {
         match self.rows.get(instance) {
             Some(row) => row.get(card).copied().unwrap_or(none),
@@ -41,7 +43,8 @@ impl<T: Copy> Grid<T> {
 
     // Writes at a place, if there is such a place.
     pub fn put(&mut self, instance: usize, card: usize, value: T)
-        ensures { self.new ≡ slice_set self.old instance (slice_set (slice_index_or self.old instance []) card value) }
+        ensures after { self.new ≡ slice_set self.old instance (slice_set (slice_index_or self.old instance []) card value) }
+        ensures shape { Shaped self.old }
     {
         // By index: what an array's `get_mut` writes, a proof does not know.
         if instance < 32 && card < 6 {

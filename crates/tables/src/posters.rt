@@ -9,9 +9,11 @@ pub struct Posters {
 }
 
 impl Model for Posters {
-    ghost use Rattle.std.specs.Prelude.{ℕ, List, Option};
+    ghost use Rattle.std.specs.Prelude.{◌≡◌, ℕ, List, Option, length};
 
     ghost Value = { List (Option ℕ) };
 
     ghost view = { λ t. t.by };
+
+    ghost invariant = { λ t. length t.by ≡ 32 };
 }

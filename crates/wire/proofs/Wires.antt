@@ -1,6 +1,6 @@
 -- The wire: items by place, and room for what is sent.
 use Rattle.std.proofs.Common.{◌≡◌, ℕ, zero, suc, ◌+◌, ◌<◌, ◌≤◌, true, false, cond, ltb, List, [], ◌∷◌, ◌++◌, length, is_some, sym, ap, ◌∙◌, ⊎_elim, append_assoc, append-nil, arith}
-use Rattle.std.specs.List.{slice_get}
+use Rattle.std.specs.List.{slice_get, remove}
 use Rattle.std.proofs.lemmas.List.{nil_from_length, length-append, length-map}
 use Rattle.std.proofs.lemmas.Bool.{cases_Bool, cases_lt, cond-true, cond-false, cond_both, and_right, not_from_true, eq-eqb, lt-ltb, le-ltb}
 use Rattle.std.proofs.lemmas.Bool.Decides.{nat_tests}
@@ -14,6 +14,12 @@ pub nth_there : {X : Type 0} (xs : List X) (i : ℕ) → is_some (slice_get xs i
 nth_there [] i = sym (le-ltb i 0 (omega arith))
 nth_there (x ∷ xs) zero = sym (lt-ltb 0 (suc (length xs)) (omega arith))
 nth_there (x ∷ xs) (suc i) = let e = nth_there xs i in grind (arith, nat_tests, e)
+
+pub removed_shorter : {X : Type 0} (xs : List X) (i : ℕ) → length (remove xs i) ≤ length xs
+removed_shorter [] zero = omega arith
+removed_shorter [] (suc i) = omega arith
+removed_shorter (x ∷ xs) zero = omega arith
+removed_shorter (x ∷ xs) (suc i) = let h : length (remove xs i) ≤ length xs = removed_shorter xs i in omega arith
 
 pub length_senders : {P : Type 0} (xs : List (Item P)) → length (senders xs) ≡ length xs
 length_senders xs = length-map xs (λ x. x.from)

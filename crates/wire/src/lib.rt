@@ -88,11 +88,13 @@ impl<P: Copy> Wire<P> {
     }
 
     // Takes an item off, if there is such an item. Item 0 is what a carrier that settles asks for: it leaves without moving any other.
+    #[tactic(auto, using(crate::proofs::Wires::removed_shorter))]
     pub fn take(&mut self, item: usize) -> Option<Item<P>>
         ensures value { result ≡ slice_get self.old.items item }
         ensures there { is_some result ≡ nat_lt item (length (senders self.old.items)) }
         ensures after { self.new ≡ holding self.old (remove self.old.items item) }
         ensures untouched { is_some result ≡ false → self.new ≡ self.old }
+        ensures fewer { length self.new.items ≤ length self.old.items }
     {
         if item == 0 {
             self.items.pop_front()
@@ -102,11 +104,13 @@ impl<P: Copy> Wire<P> {
     }
 
     // Takes off an item whose sender has crashed; any other is refused.
+    #[tactic(auto, using(crate::proofs::Wires::removed_shorter))]
     pub fn lose(&mut self, cards: &Cards, item: usize) -> Result<(), Refusal>
         ensures answer { result ≡ lose_answer (net_of cards.now (senders self.old.items) 0) item }
         ensures case { let v = net_of cards.now (senders self.old.items) 0 in
             case_of result ≡ turned_down_by (lose_reasons v item) }
         ensures after { self.new ≡ (if is_ok result then holding self.old (remove self.old.items item) else self.old) }
+        ensures fewer { length self.new.items ≤ length self.old.items }
     {
         let sender = self.sender_of(item).ok_or(Refusal::NoSuchItem)?;
         if !cards.has_crashed(sender) {

@@ -1,4 +1,4 @@
-ghost use Rattle.std.specs.Prelude.{◌≡◌, replicate, None};
+ghost use Rattle.std.specs.Prelude.{◌≡◌, length, replicate, None};
 ghost use Rattle.register.specs.Held.{held_in, filled};
 
 use super::Held;
@@ -12,14 +12,16 @@ impl Held {
     }
 
     pub fn of(&self, instance: usize) -> Option<NoteSet>
-        ensures { result ≡ held_in self.now instance }
+        ensures value { result ≡ held_in self.now instance }
+        ensures places { length self.now ≡ 32 }
     {
         self.sets.get(instance).copied().flatten()
     }
 
     // Fills the register if it is empty.
     pub fn fill(&mut self, instance: usize, notes: Option<NoteSet>)
-        ensures { self.new ≡ filled self.old instance notes }
+        ensures after { self.new ≡ filled self.old instance notes }
+        ensures places { length self.old ≡ 32 }
     {
         // By index: what an array's `get_mut` writes, a proof does not know.
         if instance < 32 && self.of(instance).is_none() {

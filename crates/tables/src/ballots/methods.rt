@@ -1,7 +1,7 @@
 ghost use Rattle.std.specs.Prelude.{◌≡◌, ◌+◌, is_ok, if◌then◌else◌, Some};
 ghost use Rattle.parts.specs.Refusals.{propose_answer};
 ghost use Rattle.parts.specs.Cases.{case_of, turned_down_by, propose_reasons};
-ghost use Rattle.tables.specs.Tables.{new_ballots, ballot_in, with_ballot, proposals_view, free_ballots};
+ghost use Rattle.tables.specs.Tables.{Shaped, new_ballots, ballot_in, with_ballot, proposals_view, free_ballots};
 
 use super::Ballots;
 use crate::grid::Grid;
@@ -19,14 +19,16 @@ impl Ballots {
     }
 
     pub fn of(&self, instance: usize, card: usize) -> Option<NoteSet>
-        ensures { result ≡ ballot_in self.now instance card }
+        ensures value { result ≡ ballot_in self.now instance card }
+        ensures shape { Shaped self.now }
     {
         self.rows.of(instance, card, None)
     }
 
     // Writes down what the card has decided, or proposed.
     pub fn put(&mut self, instance: usize, card: usize, notes: Option<NoteSet>)
-        ensures { self.new ≡ with_ballot self.old instance card notes }
+        ensures after { self.new ≡ with_ballot self.old instance card notes }
+        ensures shape { Shaped self.old }
     {
         self.rows.put(instance, card, notes);
     }
@@ -44,7 +46,10 @@ impl Ballots {
             case_of result ≡ turned_down_by (propose_reasons v instance card notes) }
         ensures after { self.new ≡ (if is_ok result then with_ballot self.old instance card (Some notes) else self.old) }
         ensures free { free_ballots self.new + (if is_ok result then 1 else 0) ≡ free_ballots self.old }
+        ensures shape { Shaped self.old }
     {
+        // Looked at first, so that the proof of a refusal knows the table's shape too.
+        let _ = &self.rows;
         cards.acting(card)?;
         if self.of(instance, card).is_some() {
             return Err(Refusal::AlreadyProposed);

@@ -1,4 +1,4 @@
-ghost use Rattle.std.specs.Prelude.{◌≡◌, ◌<◌, set, replicate, slice_set};
+ghost use Rattle.std.specs.Prelude.{◌≡◌, ◌<◌, length, set, replicate, slice_set};
 ghost use Rattle.tables.specs.Tables.{set_in, with_note, with_notes};
 
 use super::CardSets;
@@ -15,14 +15,16 @@ impl CardSets {
 
     // The set of a card; a number above 5 has none.
     pub fn of(&self, card: usize) -> NoteSet
-        ensures { result ≡ set_in self.now card }
+        ensures value { result ≡ set_in self.now card }
+        ensures places { length self.now ≡ 6 }
     {
         self.sets.get(card).copied().unwrap_or(NoteSet::empty())
     }
 
     // Puts the note into the card's set.
     pub fn add(&mut self, card: usize, note: usize)
-        ensures { self.new ≡ with_note self.old card note }
+        ensures after { self.new ≡ with_note self.old card note }
+        ensures places { length self.old ≡ 6 }
     {
         let held = self.of(card);
         self.put(card, held.with(note));
@@ -30,7 +32,8 @@ impl CardSets {
 
     // Puts all the notes into the card's set.
     pub fn add_all(&mut self, card: usize, notes: NoteSet)
-        ensures { self.new ≡ with_notes self.old card notes }
+        ensures after { self.new ≡ with_notes self.old card notes }
+        ensures places { length self.old ≡ 6 }
     {
         let held = self.of(card);
         self.put(card, held.union(notes));

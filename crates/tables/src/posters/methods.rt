@@ -1,4 +1,4 @@
-ghost use Rattle.std.specs.Prelude.{◌≡◌, ◌+◌, replicate, is_ok, if◌then◌else◌, Some, None, slice_set};
+ghost use Rattle.std.specs.Prelude.{◌≡◌, ◌+◌, length, replicate, is_ok, if◌then◌else◌, Some, None, slice_set};
 ghost use Rattle.parts.specs.Refusals.{post_answer};
 ghost use Rattle.parts.specs.Cases.{case_of, turned_down_by, post_reasons};
 ghost use Rattle.tables.specs.Tables.{poster_in, posts_view, free_notes};
@@ -16,7 +16,8 @@ impl Posters {
 
     // Who has posted note m; a number above 31 is no note.
     pub fn of(&self, m: usize) -> Option<usize>
-        ensures { result ≡ poster_in self.now m }
+        ensures poster { result ≡ poster_in self.now m }
+        ensures places { length self.now ≡ 32 }
     {
         self.by.get(m).copied().flatten()
     }
@@ -29,7 +30,10 @@ impl Posters {
             case_of result ≡ turned_down_by (post_reasons v card note) }
         ensures after { self.new ≡ (if is_ok result then slice_set self.old note (Some card) else self.old) }
         ensures free { free_notes self.new + (if is_ok result then 1 else 0) ≡ free_notes self.old }
+        ensures places { length self.old ≡ 32 }
     {
+        // Looked at first, so that the proof of a refusal knows the table's length too.
+        let _ = &self.by;
         cards.acting(card)?;
         let poster = self.by.get(note).ok_or(Refusal::NoSuchNote)?;
         if poster.is_some() {
