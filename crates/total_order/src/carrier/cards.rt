@@ -35,7 +35,8 @@ impl<B: Broadcast, C: Consensus> Carrier<B, C> {
 
     // The log of a card; there is none where there is no such card.
     pub fn log(&self, card: usize) -> &[usize]
-        ensures { result.now ≡ log_at B.Broadcast C.Consensus (model B.Broadcast C.Consensus self.now) card }
+        ensures log { result.now ≡ log_at B.Broadcast C.Consensus (model B.Broadcast C.Consensus self.now) card }
+        ensures places { length (model B.Broadcast C.Consensus self.now).logs ≡ 6 }
     {
         self.cards
             .get(card)
@@ -44,7 +45,8 @@ impl<B: Broadcast, C: Consensus> Carrier<B, C> {
 
     // The instance that a card has come to.
     pub fn instance(&self, card: usize) -> usize
-        ensures { result ≡ instance_at B.Broadcast C.Consensus (model B.Broadcast C.Consensus self.now) card }
+        ensures instance { result ≡ instance_at B.Broadcast C.Consensus (model B.Broadcast C.Consensus self.now) card }
+        ensures places { length (model B.Broadcast C.Consensus self.now).instances ≡ 6 }
     {
         self.cards.get(card).map_or(0, |progress| progress.instance)
     }
