@@ -41,7 +41,7 @@ impl<'a> Label<'a> {
     pub fn may_stand_before(&self, other: &Label<'a>) -> bool
         ensures { result ≡ label_before (label_of self.now).0 (label_of other.now).0 }
     {
-        self.bytes() <= other.bytes()
+        self.bytes().cmp(other.bytes()).is_le()
     }
 
     // Where its first byte stands in the caller's text.
